@@ -78,6 +78,15 @@ pub struct Refused {
     pub layer: Layer,
 }
 
+impl Refused {
+    // A refusal that a book finds, or anything else that holds links.
+    pub fn by_book(refusal: Refusal) -> Refused
+        ensures { λ r. ⌜ r ≡ record { refusal = refusal; layer = Layer.Book } ⌝ }
+    {
+        Refused { refusal, layer: Layer::Book }
+    }
+}
+
 // Links that can be asked for. What the answers say holds of every value that came from its making; a call is safe
 // and ends on any other too.
 pub trait Links {

@@ -1,0 +1,4 @@
+pub mod Cells
+pub mod Rows
+pub mod Fresh
+pub mod Writes

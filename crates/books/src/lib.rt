@@ -1,0 +1,2 @@
+// Books of links in memory that the caller lends.
+pub mod bit_matrix;
