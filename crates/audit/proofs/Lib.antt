@@ -1,0 +1,4 @@
+pub mod Lowest
+pub mod Paths
+pub mod Shapes
+pub mod Soundness
