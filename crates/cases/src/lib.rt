@@ -1,0 +1,5 @@
+// Examples of what the crates below answer, proved safe and then run.
+#[cfg(test)]
+mod claims;
+#[cfg(test)]
+mod matrix;
