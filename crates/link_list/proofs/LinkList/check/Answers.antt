@@ -1,0 +1,20 @@
+use mathlib.Core.Path.{sym, ap, _∙_}
+use native.Mathlib.Omega.{arith}
+use Rattle.link_list.specs.Lists.{bad-entry}
+use Rattle.link_list.proofs.Checks.{checking-is, sound-is}
+use Rattle.link_list.proofs.LinkList.check.Needs as need
+
+pub returns-in-Some : need.returns-in-Some
+returns-in-Some c =
+    checking-is (c .args .size) (c .args .entries .now) _ _ (c .first-unordered .ensures) (c .first-out-of-bounds .ensures)
+    (omega arith) (omega arith)
+    ∙ ap bad-entry (sym (c .in-Some .ensures tt))
+
+pub returns-in-None : need.returns-in-None
+returns-in-None c = (
+  checking-is (c .args .size) (c .args .entries .now) _ _ (c .first-unordered .ensures) (c .first-out-of-bounds .ensures)
+      (omega arith) (omega arith)
+      ∙ ap bad-entry (sym (c .in-None .ensures tt)),
+  sound-is (c .args .size) (c .args .entries .now) _ _ (c .first-unordered .ensures) (c .first-out-of-bounds .ensures)
+      (omega arith) (sym (c .in-None .ensures tt)),
+)
