@@ -1,0 +1,4 @@
+pub mod Table
+pub mod Monotone
+pub mod Filtered
+pub mod Through
