@@ -2,4 +2,8 @@
 #[cfg(test)]
 mod claims;
 #[cfg(test)]
+mod holders;
+#[cfg(test)]
 mod matrix;
+#[cfg(test)]
+mod places;
