@@ -10,6 +10,7 @@ use Rattle.std.specs.declared.option.Option.{Option}
 use Rattle.std.specs.declared.option.Option.the-variants.{None}
 use Rattle.graph.specs.Graph.{Graph, degree, link-count, edgeless}
 use Rattle.links.specs.Books.{Ledger, Stands, by-book}
+use Rattle.links.specs.Memory.{Cleared}
 use Rattle.links.specs.Refusals.{Reason}
 use Rattle.bits.specs.Bit.{bit}
 use Rattle.books.specs.declared.bit_matrix.BitMatrix.{BitMatrix}
@@ -93,12 +94,6 @@ fresh n limit =
 -- the matrix has no links and every spare
 abbrev pub Fresh : ℕ → ℕ → BitMatrix → Type 0
 Fresh n limit m = Stands matrix-graph matrix-made matrix-ledger m (edgeless n) (fresh n limit)
-
--- the first words are 0, and the others as they were
-pub record Cleared (used : ℕ) (before after : List ℕ) : Type 0 where
-  pub same-length : length after ≡ length before
-  pub zeros : (k : ℕ) → k < used → getD after k 0 ≡ 0
-  pub beyond : (k : ℕ) → used ≤ k → getD after k 0 ≡ getD before k 0
 
 -- what is made of the memory: a matrix where the check grants one, else a book of no loads
 abbrev pub Making : Bool → ℕ → ℕ → List ℕ → BitMatrix → Type 0

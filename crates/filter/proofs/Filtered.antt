@@ -49,26 +49,28 @@ bars-read bars i j k m i-class j-class p q =
 module _ (hid : ℕ → ℕ → Bool) (g : Graph) where
   pub filtered-links : link-count (filtered hid g) ≤ link-count g
   filtered-links =
-    total-mono (g .size) _ _ (λ a. count-mono a (filtered hid g .linked a) (g .linked a) (λ b e. and-parts (g .linked a b) _ e .0))
+      total-mono (g .size) _ _ (λ a. count-mono a (filtered hid g .linked a) (g .linked a) (λ b e. and-parts (g .linked a b) _ e .0))
 
   pub filtered-simple : Symmetric hid → Simple g → Simple (filtered hid g)
   filtered-simple even s =
-    record {
-      small = s .small;
-      loopless = λ a. and-left (g .linked a a) _ (s .loopless a);
-      symmetric = λ a b. ap₂ (λ (x y : Bool). x && not y) (s .symmetric a b) (even a b);
-      below = λ a b e. s .below a b (and-parts (g .linked a b) _ e .0) }
+      record {
+        small = s .small;
+        loopless = λ a. and-left (g .linked a a) _ (s .loopless a);
+        symmetric = λ a b. ap₂ (λ (x y : Bool). x && not y) (s .symmetric a b) (even a b);
+        below = λ a b e. s .below a b (and-parts (g .linked a b) _ e .0);
+      }
 
   pub filtered-bounded : (l : Ledger) → Symmetric hid → Bounded g l → Bounded (filtered hid g) (filtered-ledger hid (g .size) l)
   filtered-bounded l even bound =
-    record {
-      limit-bound = bound .limit-bound;
-      within = omega (arith, filtered-links, bound .within);
-      barred-symmetric = λ a b.
-        ap₂ (λ (x y : Bool). x || (ltb a (g .size) && (ltb b (g .size) && y))) (bound .barred-symmetric a b) (even a b)
-        ∙ ap (λ (x : Bool). l .barred b a || x) (and-swap (ltb a (g .size)) (ltb b (g .size)) (hid b a));
-      barred-below = λ a b e. ⊎-elim (bound .barred-below a b) (λ own. ltb-true a (g .size) (and-parts (ltb a (g .size)) _ own .0)) (or-cases (l .barred a b) _ e);
-      spare-below = bound .spare-below }
+      record {
+        limit-bound = bound .limit-bound;
+        within = omega (arith, filtered-links, bound .within);
+        barred-symmetric = λ a b.
+            ap₂ (λ (x y : Bool). x || (ltb a (g .size) && (ltb b (g .size) && y))) (bound .barred-symmetric a b) (even a b)
+            ∙ ap (λ (x : Bool). l .barred b a || x) (and-swap (ltb a (g .size)) (ltb b (g .size)) (hid b a));
+        barred-below = λ a b e. ⊎-elim (bound .barred-below a b) (λ own. ltb-true a (g .size) (and-parts (ltb a (g .size)) _ own .0)) (or-cases (l .barred a b) _ e);
+        spare-below = bound .spare-below;
+      }
 
 -- ---- a change of a link that is not hidden
 

@@ -13,14 +13,14 @@ pub table-read : (n given : ℕ) (front xs : List ℕ) → given ≡ min (length
 table-read n given front xs is-min is-front a below =
     ⊎-elim
     (λ inside.
-        getD-append-left front _ 0 a (omega (arith, size))
-        ∙ ap (λ (ys : List ℕ). getD ys a 0) is-front
-        ∙ getD-take (given - 0) xs a 0 (omega arith))
+    getD-append-left front _ 0 a (omega (arith, size))
+    ∙ ap (λ (ys : List ℕ). getD ys a 0) is-front
+    ∙ getD-take (given - 0) xs a 0 (omega arith))
     (λ past.
-        getD-append-right front _ given a 0 size past
-        ∙ getD-drop (given - 0) (replicate n 0) (a - given) 0
-        ∙ getD-replicate n _ 0 0 (omega arith)
-        ∙ sym (getD-past xs a 0 (omega arith)))
+    getD-append-right front _ given a 0 size past
+    ∙ getD-drop (given - 0) (replicate n 0) (a - given) 0
+    ∙ getD-replicate n _ 0 0 (omega arith)
+    ∙ sym (getD-past xs a 0 (omega arith)))
     (cases-lt a given)
   where
     size : length front ≡ given

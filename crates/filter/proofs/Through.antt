@@ -32,25 +32,29 @@ module _ {B : Type 0} (graph : B → Graph) (made : B → Type 0) (ledger : B �
   pub adds-through : Adds graph made ledger (s .below) a b r t → Adds (filter-graph graph) (filter-made made) (filter-ledger graph ledger) s a b r (record { below = t; classes = s .classes; bars = s .bars })
   unfolding hid over
   adds-through below =
-    record {
-      kept = kept-map over r (s .below) t (below .kept);
-      answers = λ m.
-        answers-map _ _ r (adding-filtered hid (graph (s .below)) a b seen (ledger (s .below)))
-        (λ _ after. record {
-          graph-is = ap (filtered hid) (after .graph-is) ∙ filtered-added hid (graph (s .below)) a b seen (hidden-symmetric (s .classes) (s .bars));
-          ledger-is = ap₂ (λ (x : Graph) (y : Ledger). filtered-ledger hid (x .size) y) (after .graph-is) (after .ledger-is);
-          still-made = after .still-made })
-        (below .answers m) }
+      record {
+        kept = kept-map over r (s .below) t (below .kept);
+        answers = λ m.
+            answers-map _ _ r (adding-filtered hid (graph (s .below)) a b seen (ledger (s .below)))
+            (λ _ after. record {
+              graph-is = ap (filtered hid) (after .graph-is) ∙ filtered-added hid (graph (s .below)) a b seen (hidden-symmetric (s .classes) (s .bars));
+              ledger-is = ap₂ (λ (x : Graph) (y : Ledger). filtered-ledger hid (x .size) y) (after .graph-is) (after .ledger-is);
+              still-made = after .still-made;
+            })
+            (below .answers m);
+      }
 
   pub removes-through : Removes graph made ledger (s .below) a b r t → Removes (filter-graph graph) (filter-made made) (filter-ledger graph ledger) s a b r (record { below = t; classes = s .classes; bars = s .bars })
   unfolding hid over
   removes-through below =
-    record {
-      kept = kept-map over r (s .below) t (below .kept);
-      answers = λ m.
-        answers-map _ _ r (removing-filtered hid (graph (s .below)) a b seen)
-        (λ _ after. record {
-          graph-is = ap (filtered hid) (after .graph-is) ∙ filtered-removed hid (graph (s .below)) a b seen;
-          ledger-is = ap₂ (λ (x : Graph) (y : Ledger). filtered-ledger hid (x .size) y) (after .graph-is) (after .ledger-is);
-          still-made = after .still-made })
-        (below .answers m) }
+      record {
+        kept = kept-map over r (s .below) t (below .kept);
+        answers = λ m.
+            answers-map _ _ r (removing-filtered hid (graph (s .below)) a b seen)
+            (λ _ after. record {
+              graph-is = ap (filtered hid) (after .graph-is) ∙ filtered-removed hid (graph (s .below)) a b seen;
+              ledger-is = ap₂ (λ (x : Graph) (y : Ledger). filtered-ledger hid (x .size) y) (after .graph-is) (after .ledger-is);
+              still-made = after .still-made;
+            })
+            (below .answers m);
+      }

@@ -63,7 +63,11 @@ impl<B: Book> ClassFilter<B> {
         ensures bars { λ r. ⌜ r .bars ≡ bars ⌝ }
         ensures stands { λ r. ⌜ (B·Links .made below → Stands (filter-graph (B·Links .graph)) (filter-made (B·Links .made)) (filter-ledger (B·Links .graph) (B·Book .ledger)) r (filtered (hidden (now (classes .entry)) bars) (B·Links .graph below)) (filtered-ledger (hidden (now (classes .entry)) bars) (B·Links .graph below .size) (B·Book .ledger below))) ⌝ }
     {
-        ClassFilter { below, classes: class_table(classes), bars }
+        ClassFilter {
+            below,
+            classes: class_table(classes),
+            bars,
+        }
     }
 
     // The smallest load at or above `from` and below `end` that is linked to a by a link that is not hidden.

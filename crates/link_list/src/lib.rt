@@ -5,7 +5,6 @@ ghost use Rattle.graph.specs.Graph.{Next};
 ghost use Rattle.links.specs.Refusals.{Answers};
 ghost use Rattle.link_list.specs.Entries.{entry-before, in-bounds, joins, touches, lower-of, first, out-of-bounds};
 ghost use Rattle.link_list.specs.Lists.{list-graph, list-made, checking, Sound, Listing};
-use links::Layer;
 use links::Links;
 use links::Refusal;
 use links::Refused;
@@ -105,18 +104,11 @@ impl<'a> LinkList<'a> {
     pub fn check(size: usize, entries: &[Entry]) -> Result<(), Refused>
         ensures { λ r. ⌜ Answers (checking size (now (entries .entry))) r (λ _. Sound size (now (entries .entry))) ⌝ }
     {
-        let layer = Layer::Book;
         if size == 0 || size > 256 {
-            return Err(Refused {
-                refusal: Refusal::SizeOutOfRange,
-                layer,
-            });
+            return Err(Refused::by_book(Refusal::SizeOutOfRange));
         }
         match lower(first_unordered(entries), first_out_of_bounds(size, entries)) {
-            Some(index) => Err(Refused {
-                refusal: Refusal::BadEntry(index),
-                layer,
-            }),
+            Some(index) => Err(Refused::by_book(Refusal::BadEntry(index))),
             None => Ok(()),
         }
     }

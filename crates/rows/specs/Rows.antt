@@ -11,6 +11,7 @@ use Rattle.std.specs.declared.result.Result.{Result}
 use Rattle.std.specs.Results.{isOk}
 use Rattle.graph.specs.Graph.{Graph, link-count, edgeless}
 use Rattle.links.specs.Books.{Ledger, by-book}
+use Rattle.links.specs.Memory.{Cleared}
 use Rattle.links.specs.Refusals.{Reason}
 use Rattle.links.specs.declared.Refused.{Refused}
 use Rattle.rows.specs.Row.{entries, has, RowMade}
@@ -85,12 +86,6 @@ pub record Fresh (n d limit : ℕ) (s : SortedRows) : Type 0 where
   pub row-limit : s .«row_limit» ≡ d
   pub graph : book-graph s ≡ edgeless n
   pub ledger : book-ledger s ≡ fresh n d limit
-
--- the first numbers of the memory are zero now, and the others as they were
-pub record Cleared (need : ℕ) (before after : List ℕ) : Type 0 where
-  pub same-length : length after ≡ length before
-  pub zeros : (k : ℕ) → k < need → getD after k 0 ≡ 0
-  pub beyond : (k : ℕ) → need ≤ k → getD after k 0 ≡ getD before k 0
 
 -- what is made in memory that held `before`: the book asked for, or, where there is a reason not to make it, one of no loads
 abbrev pub Making : Option Reason → ℕ → ℕ → ℕ → List ℕ → SortedRows → Type 0

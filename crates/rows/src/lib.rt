@@ -14,7 +14,6 @@ ghost use Rattle.rows.specs.Rows.{Whole, book-row, book-graph, book-ledger, bo
 mod row;
 
 use links::Book;
-use links::Layer;
 use links::Links;
 use links::Refusal;
 use links::Refused;
@@ -37,28 +36,19 @@ pub struct SortedRows<'a> {
     rows: &'a mut [u16],
 }
 
-fn refused(refusal: Refusal) -> Refused
-    ensures { λ r. ⌜ r ≡ record { refusal = refusal; layer = Layer.Book } ⌝ }
-{
-    Refused {
-        refusal,
-        layer: Layer::Book,
-    }
-}
-
 impl<'a> SortedRows<'a> {
     // Whether a book with these limits can be made in this memory.
     pub fn check(size: usize, row_limit: usize, limit: usize, rows: &[u16]) -> Result<(), Refused>
         ensures { λ r. ⌜ Answers (checking size «row_limit» limit (length (now (rows .entry)))) r (λ _. Unit {0}) ⌝ }
     {
         if size == 0 || size > 256 {
-            return Err(refused(Refusal::SizeOutOfRange));
+            return Err(Refused::by_book(Refusal::SizeOutOfRange));
         }
         if limit == 0 || limit > 32640 || row_limit == 0 || row_limit > 255 {
-            return Err(refused(Refusal::LimitOutOfRange));
+            return Err(Refused::by_book(Refusal::LimitOutOfRange));
         }
         if rows.len() < size * (row_limit + 1) {
-            return Err(refused(Refusal::WrongLength));
+            return Err(Refused::by_book(Refusal::WrongLength));
         }
         Ok(())
     }
@@ -175,19 +165,19 @@ pub impl Book for SortedRows<'_> as SortedRowsBook {
     {
         let size = self.size as usize;
         if a >= size || b >= size {
-            return Err(refused(Refusal::NoSuchLoad));
+            return Err(Refused::by_book(Refusal::NoSuchLoad));
         }
         if a == b {
-            return Err(refused(Refusal::SameLoad));
+            return Err(Refused::by_book(Refusal::SameLoad));
         }
         if self.linked(a, b) {
-            return Err(refused(Refusal::AlreadyLinked));
+            return Err(Refused::by_book(Refusal::AlreadyLinked));
         }
         if self.spare(a) == 0 || self.spare(b) == 0 {
-            return Err(refused(Refusal::LoadFull));
+            return Err(Refused::by_book(Refusal::LoadFull));
         }
         if self.count >= self.limit {
-            return Err(refused(Refusal::BookFull));
+            return Err(Refused::by_book(Refusal::BookFull));
         }
         let row_limit = self.row_limit;
         insert_in(self.rows, row_limit, a as u16, b as u16);
@@ -203,13 +193,13 @@ pub impl Book for SortedRows<'_> as SortedRowsBook {
     {
         let size = self.size as usize;
         if a >= size || b >= size {
-            return Err(refused(Refusal::NoSuchLoad));
+            return Err(Refused::by_book(Refusal::NoSuchLoad));
         }
         if a == b {
-            return Err(refused(Refusal::SameLoad));
+            return Err(Refused::by_book(Refusal::SameLoad));
         }
         if !self.linked(a, b) {
-            return Err(refused(Refusal::NotLinked));
+            return Err(Refused::by_book(Refusal::NotLinked));
         }
         let row_limit = self.row_limit;
         remove_from(self.rows, row_limit, a as u16, b as u16);

@@ -7,5 +7,6 @@ returns g c =
     record {
       value = c .limit .ensures .value;
       bounded = λ made.
-        filtered-bounded (hidden (c .args .self .now .classes) (c .args .self .now .bars)) (g .B·Links .graph (c .args .self .now .below)) (g .B·Book .ledger (c .args .self .now .below))
-        (hidden-symmetric (c .args .self .now .classes) (c .args .self .now .bars)) (c .limit .ensures .bounded made) }
+          filtered-bounded (hidden (c .args .self .now .classes) (c .args .self .now .bars)) (g .B·Links .graph (c .args .self .now .below)) (g .B·Book .ledger (c .args .self .now .below))
+          (hidden-symmetric (c .args .self .now .classes) (c .args .self .now .bars)) (c .limit .ensures .bounded made);
+    }

@@ -7,5 +7,6 @@ returns g c =
     record {
       value = c .size .ensures .value;
       simple = λ made.
-        filtered-simple (hidden (c .args .self .now .classes) (c .args .self .now .bars)) (g .B·Links .graph (c .args .self .now .below))
-        (hidden-symmetric (c .args .self .now .classes) (c .args .self .now .bars)) (c .size .ensures .simple made) }
+          filtered-simple (hidden (c .args .self .now .classes) (c .args .self .now .bars)) (g .B·Links .graph (c .args .self .now .below))
+          (hidden-symmetric (c .args .self .now .classes) (c .args .self .now .bars)) (c .size .ensures .simple made);
+    }

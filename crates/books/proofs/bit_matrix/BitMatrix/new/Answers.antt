@@ -8,7 +8,7 @@ use borrow.Rule.Slice.PartMut.{postOf}
 use lib.ListN.{length, getD}
 use Rattle.std.proofs.shelf.Lists.{places}
 use Rattle.links.proofs.Reasons.{reason-some}
-use Rattle.books.specs.Matrix.{Making, Cleared, granted, all-words}
+use Rattle.books.specs.Matrix.{Making, granted}
 use Rattle.books.proofs.Fresh.{granted-bounds, fresh-from-zeros}
 use Rattle.books.proofs.bit_matrix.BitMatrix.new.Needs as need
 
