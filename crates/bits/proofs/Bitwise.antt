@@ -93,11 +93,11 @@ unfolding bit
 bit-mod n k j =
     ⊎-elim
     (λ l.
-        let same : ((k - suc j) + 1) + j ≡ k = omega arith in
-        ap (λ (x : ℕ). eqb (n % 2 ^ x / 2 ^ j % 2) 1) (sym same)
-        ∙ ap (λ (x : ℕ). eqb (x % 2) 1) (field-of n ((k - suc j) + 1) j)
-        ∙ ap (λ (x : ℕ). eqb x 1) (mod-mod-pow (n / 2 ^ j) (k - suc j) 1)
-        ∙ sym (ap (λ (x : Bool). x && eqb (n / 2 ^ j % 2) 1) (lt-ltb j k l)))
+    let same : ((k - suc j) + 1) + j ≡ k = omega arith in
+    ap (λ (x : ℕ). eqb (n % 2 ^ x / 2 ^ j % 2) 1) (sym same)
+    ∙ ap (λ (x : ℕ). eqb (x % 2) 1) (field-of n ((k - suc j) + 1) j)
+    ∙ ap (λ (x : ℕ). eqb x 1) (mod-mod-pow (n / 2 ^ j) (k - suc j) 1)
+    ∙ sym (ap (λ (x : Bool). x && eqb (n / 2 ^ j % 2) 1) (lt-ltb j k l)))
     (λ l. bit-past k (n % 2 ^ k) j (mod-lt n (pow-pos k)) l ∙ sym (and-left (ltb j k) _ (le-ltb j k l)))
     (cases-lt j k)
 
@@ -140,9 +140,9 @@ bit-cleared w k j fits l =
     bit-and w ((2 ^ 64 - 1) - (1 * 2 ^ k) % 2 ^ 64) j
     ∙ ap (λ (x : Bool). bit w j && x) (bit-not 64 ((1 * 2 ^ k) % 2 ^ 64) j (mod-lt (1 * 2 ^ k) (pow-pos 64)) ∙ ap (λ (x : Bool). ltb j 64 && not x) (single k j l))
     ∙ ⊎-elim
-        (λ m. ap (λ (x : Bool). bit w j && (x && not (eqb k j))) (lt-ltb j 64 m))
-        (λ m. let off : bit w j ≡ false = bit-past 64 w j fits m in and-left (bit w j) _ off ∙ sym (and-left (bit w j) _ off))
-        (cases-lt j 64)
+    (λ m. ap (λ (x : Bool). bit w j && (x && not (eqb k j))) (lt-ltb j 64 m))
+    (λ m. let off : bit w j ≡ false = bit-past 64 w j fits m in and-left (bit w j) _ off ∙ sym (and-left (bit w j) _ off))
+    (cases-lt j 64)
 
 -- ---- the lowest bit from a place on
 
@@ -151,12 +151,12 @@ high-mask : (from j : ℕ) → bit (((2 ^ 64 - 1) * 2 ^ from) % 2 ^ 64) j ≡ (l
 high-mask from j =
     bit-mod ((2 ^ 64 - 1) * 2 ^ from) 64 j
     ∙ ⊎-elim
-        (λ l. ap (λ (x : Bool). ltb j 64 && x) (bit-under (2 ^ 64 - 1) from j l ∙ sym (lt-leb from j l)))
-        (λ l. ⊎-elim
-            (λ m. ap (λ (x : Bool). ltb j 64 && x) (bit-shl (2 ^ 64 - 1) from j l ∙ all (j - from) (omega arith) ∙ sym (le-leb from j l)))
-            (λ m. and-left (ltb j 64) _ (le-ltb j 64 m) ∙ sym (and-left (ltb j 64) _ (le-ltb j 64 m)))
-            (cases-lt j 64))
-        (cases-lt j from)
+    (λ l. ap (λ (x : Bool). ltb j 64 && x) (bit-under (2 ^ 64 - 1) from j l ∙ sym (lt-leb from j l)))
+    (λ l. ⊎-elim
+    (λ m. ap (λ (x : Bool). ltb j 64 && x) (bit-shl (2 ^ 64 - 1) from j l ∙ all (j - from) (omega arith) ∙ sym (le-leb from j l)))
+    (λ m. and-left (ltb j 64) _ (le-ltb j 64 m) ∙ sym (and-left (ltb j 64) _ (le-ltb j 64 m)))
+    (cases-lt j 64))
+    (cases-lt j from)
   where
     all : (i : ℕ) → i < 64 → bit (2 ^ 64 - 1) i ≡ true
     all i l = bit-not 64 0 i (pow-pos 64) ∙ rw (lt-ltb i 64 l, bit-zero i)
@@ -170,9 +170,9 @@ bit-high w from j fits l =
     bit-and w (((2 ^ 64 - 1) * 2 ^ from) % 2 ^ 64) j
     ∙ ap (λ (x : Bool). bit w j && x) (high-mask from j)
     ∙ ⊎-elim
-        (λ m. rw (lt-ltb j 64 m, le-leb from j l) (and-true (bit w j)))
-        (λ m. let off : bit w j ≡ false = bit-past 64 w j fits m in and-left (bit w j) _ off ∙ sym off)
-        (cases-lt j 64)
+    (λ m. rw (lt-ltb j 64 m, le-leb from j l) (and-true (bit w j)))
+    (λ m. let off : bit w j ≡ false = bit-past 64 w j fits m in and-left (bit w j) _ off ∙ sym off)
+    (cases-lt j 64)
   where
     and-true : (x : Bool) → (x && true) ≡ x
     and-true true = refl
@@ -200,7 +200,8 @@ lowest-more k n t zero even h =
     record {
       low = low-at;
       hit = λ l. bit-half n t ∙ h .hit (omega arith);
-      some = λ p q. omega (arith, pow-suc 2 k, h .some (omega arith) (omega (arith, pow-suc 2 k))) }
+      some = λ p q. omega (arith, pow-suc 2 k, h .some (omega arith) (omega (arith, pow-suc 2 k)));
+    }
   where
     low-at : (j : ℕ) → j < suc t → bit n j ≡ false
     low-at zero l = bit-low n ∙ ap (λ (x : ℕ). eqb x 1) even
@@ -219,12 +220,14 @@ pub next-high : (w from : ℕ) → w < 2 ^ 64 → (high w from ≡ 0 → ⊥) �
 next-high w from fits some =
     let found = lowest 64 (high w from) in
     let small : trailingZeros 64 (high w from) < 64 = found .some (omega (arith, some)) (omega (arith, and-le-l w (((2 ^ 64 - 1) * 2 ^ from) % 2 ^ 64))) in
-    let past : from ≤ trailingZeros 64 (high w from) = bit-high-past w from (trailingZeros 64 (high w from)) (found .hit small) in
-    ( small
-    , record {
+    let past : from ≤ trailingZeros 64 (high w from) = bit-high-past w from (trailingZeros 64 (high w from)) (found .hit small) in (
+      small,
+      record {
         past = past;
         hit = sym (bit-high w from (trailingZeros 64 (high w from)) fits past) ∙ found .hit small;
-        before = λ j l m. sym (bit-high w from j fits l) ∙ found .low j m } )
+        before = λ j l m. sym (bit-high w from j fits l) ∙ found .low j m;
+      },
+    )
 
 -- ---- how many bits
 

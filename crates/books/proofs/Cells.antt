@@ -37,18 +37,20 @@ pub same-place : (n a b x y : ℕ) → b < 64 * row-words n → y < 64 * row-wor
 same-place n a b x y l m =
     ⊎-elim
     (λ row. ⊎-elim
-        (λ column.
-            and-from _ _ (eq-eqb (word-at n a b) (word-at n x y) (ap₂ (λ (i j : ℕ). word-at n i j) row column)) (eq-eqb (b % 64) (y % 64) (ap (λ (z : ℕ). z % 64) column))
-            ∙ sym (and-from _ _ (eq-eqb a x row) (eq-eqb b y column)))
-        (λ apart. off (λ e f. apart (omega (arith, column-of e))) ∙ sym (and-right (eqb a x) _ (ne-eqb b y apart)))
-        (cases-eq b y))
+    (λ column.
+    and-from _ _ (eq-eqb (word-at n a b) (word-at n x y) (ap₂ (λ (i j : ℕ). word-at n i j) row column)) (eq-eqb (b % 64) (y % 64) (ap (λ (z : ℕ). z % 64) column))
+    ∙ sym (and-from _ _ (eq-eqb a x row) (eq-eqb b y column)))
+    (λ apart. off (λ e f. apart (omega (arith, column-of e))) ∙ sym (and-right (eqb a x) _ (ne-eqb b y apart)))
+    (cases-eq b y))
     (λ apart. off (λ e f. apart (row-of e)) ∙ sym (and-left (eqb a x) _ (ne-eqb a x apart)))
     (cases-eq a x)
   where
     row-of : word-at n a b ≡ word-at n x y → a ≡ x
     row-of e = sym (div-mul-add a (row-words n) (b / 64) (omega arith)) ∙ ap (λ (z : ℕ). z / row-words n) e ∙ div-mul-add x (row-words n) (y / 64) (omega arith)
+
     column-of : word-at n a b ≡ word-at n x y → b / 64 ≡ y / 64
     column-of e = sym (mod-mul-add a (row-words n) (b / 64) (omega arith)) ∙ ap (λ (z : ℕ). z % row-words n) e ∙ mod-mul-add x (row-words n) (y / 64) (omega arith)
+
     off : (word-at n a b ≡ word-at n x y → b % 64 ≡ y % 64 → ⊥) → is-place n a b (word-at n x y) (y % 64) ≡ false
     off apart =
         ⊎-elim

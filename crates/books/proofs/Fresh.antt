@@ -42,7 +42,8 @@ fresh-from-zeros m small bound none enough zeros =
         limit = m .limit;
         barred = λ _ _. false;
         spare = λ a. cond (ltb a (m .size)) (all-spare a i) 0;
-        room = all-room i };
+        room = all-room i;
+      };
       still-made = record {
         small = small;
         limit-bound = bound;
@@ -51,13 +52,18 @@ fresh-from-zeros m small bound none enough zeros =
         symmetric = λ a b l k. zero a b l (omega arith) ∙ sym (zero b a k (omega arith));
         padded = λ a b l _ k. zero a b l k;
         counted = none ∙ sym (link-count-none (matrix-graph m) off);
-        within = omega (arith, none) } }
+        within = omega (arith, none);
+      };
+    }
   where
     zero : (a b : ℕ) → a < m .size → b < 64 * row-words (m .size) → cell (m .size) (m .words .now) a b ≡ false
     zero = cell-zero (m .size) (m .words .now) zeros
+
     off : (a b : ℕ) → matrix-graph m .linked a b ≡ false
     off = linked-zero (m .size) (m .words .now) zeros
+
     all-spare : (a : ℕ) → m .size - 1 - degree (matrix-graph m) a ≡ m .size - 1
     all-spare a = omega (arith, count-none (m .size) (matrix-graph m .linked a) (λ b _. off a b))
+
     all-room : m .limit - m .count ≡ m .limit
     all-room = omega (arith, none)

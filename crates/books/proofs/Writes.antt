@@ -28,13 +28,13 @@ written-one on n words a b i word place inside new =
     at k j =
         ⊎-elim
         (λ e.
-            subst (λ (p : ℕ). bit (getD (set words i word) p 0) j ≡ cond (eqb i p && eqb (b % 64) j) on (bit (getD words p 0) j)) e
-            (ap (λ (x : ℕ). bit x j) (getD-set-same words i word 0 inside)
-            ∙ new j
-            ∙ ap (λ (t : Bool). cond (t && eqb (b % 64) j) on (bit (getD words i 0) j)) (sym (eq-eqb i i refl))))
+        subst (λ (p : ℕ). bit (getD (set words i word) p 0) j ≡ cond (eqb i p && eqb (b % 64) j) on (bit (getD words p 0) j)) e
+        (ap (λ (x : ℕ). bit x j) (getD-set-same words i word 0 inside)
+        ∙ new j
+        ∙ ap (λ (t : Bool). cond (t && eqb (b % 64) j) on (bit (getD words i 0) j)) (sym (eq-eqb i i refl))))
         (λ ne.
-            ap (λ (x : ℕ). bit x j) (getD-set-other words i k word 0 (λ e. ne (sym e)))
-            ∙ ap (λ (t : Bool). cond t on (bit (getD words k 0) j)) (sym (and-left (eqb i k) _ (ne-eqb i k ne))))
+        ap (λ (x : ℕ). bit x j) (getD-set-other words i k word 0 (λ e. ne (sym e)))
+        ∙ ap (λ (t : Bool). cond t on (bit (getD words k 0) j)) (sym (and-left (eqb i k) _ (ne-eqb i k ne))))
         (cases-eq i k)
 
 -- the new bits of a word, as they are set and as they are cleared
@@ -54,7 +54,8 @@ pub written-both : (on : Bool) (p q : ℕ → ℕ → Bool) (before mid after : 
 written-both on p q before mid after one two =
     record {
       same-length = two .same-length ∙ one .same-length;
-      bits = λ k j. two .bits k j ∙ ap (λ (t : Bool). cond (q k j) on t) (one .bits k j) ∙ joined (p k j) (q k j) (bit (getD before k 0) j) }
+      bits = λ k j. two .bits k j ∙ ap (λ (t : Bool). cond (q k j) on t) (one .bits k j) ∙ joined (p k j) (q k j) (bit (getD before k 0) j);
+    }
   where
     joined : (x y old : Bool) → cond y on (cond x on old) ≡ cond (x || y) on old
     joined true true old = refl
@@ -92,32 +93,33 @@ module _ (on : Bool) (n limit count : ℕ) (words after : List ℕ) (a b : ℕ) 
   cells : (x y : ℕ) → y < 64 * row-words n → cell n after x y ≡ cond (is-pair a b x y) on (cell n words x y)
   unfolding cell
   cells x y h =
-    w .bits (word-at n x y) (y % 64)
-    ∙ ap₂ (λ (s t : Bool). cond (s || t) on (bit (getD words (word-at n x y) 0) (y % 64)))
-        (same-place n a b x y (omega arith) h)
-        (same-place n b a x y (omega arith) h ∙ and-swap (eqb b x) (eqb a y))
+      w .bits (word-at n x y) (y % 64)
+      ∙ ap₂ (λ (s t : Bool). cond (s || t) on (bit (getD words (word-at n x y) 0) (y % 64)))
+      (same-place n a b x y (omega arith) h)
+      (same-place n b a x y (omega arith) h ∙ and-swap (eqb b x) (eqb a y))
 
   pub linked-after : (x y : ℕ) → matrix n after .linked x y ≡ cond (is-pair a b x y) on (matrix n words .linked x y)
   linked-after x y =
-    ⊎-elim
-    (λ h. ⊎-elim
-        (λ k. linked-in n after x y h k ∙ cells x y (omega arith) ∙ ap (λ (t : Bool). cond (is-pair a b x y) on t) (sym (linked-in n words x y h k)))
-        (λ k. linked-past n after x y k ∙ sym (ap₂ (λ (s t : Bool). cond s on t) (pair-past x y k) (linked-past n words x y k)))
-        (cases-lt y n))
-    (λ h. linked-past-row n after x y h ∙ sym (ap₂ (λ (s t : Bool). cond s on t) (pair-swap a b x y ∙ pair-past y x h) (linked-past-row n words x y h)))
-    (cases-lt x n)
+      ⊎-elim
+      (λ h. ⊎-elim
+      (λ k. linked-in n after x y h k ∙ cells x y (omega arith) ∙ ap (λ (t : Bool). cond (is-pair a b x y) on t) (sym (linked-in n words x y h k)))
+      (λ k. linked-past n after x y k ∙ sym (ap₂ (λ (s t : Bool). cond s on t) (pair-past x y k) (linked-past n words x y k)))
+      (cases-lt y n))
+      (λ h. linked-past-row n after x y h ∙ sym (ap₂ (λ (s t : Bool). cond s on t) (pair-swap a b x y ∙ pair-past y x h) (linked-past-row n words x y h)))
+      (cases-lt x n)
 
   pub made-after : (next : ℕ) → next ≡ link-count (matrix n after) → next ≤ limit → Made n limit next after
   made-after next counted within =
-    record {
-      small = made .small;
-      limit-bound = made .limit-bound;
-      enough = omega (arith, made .enough, w .same-length);
-      loopless = λ x h. cells x x (omega arith) ∙ ap₂ (λ (s t : Bool). cond s on t) (not-pair a b x x (λ u v. ne (u ∙ sym v)) (λ u v. ne (u ∙ sym v))) (made .loopless x h);
-      symmetric = λ x y h k. cells x y (omega arith) ∙ ap₂ (λ (s t : Bool). cond s on t) (pair-swap a b x y) (made .symmetric x y h k) ∙ sym (cells y x (omega arith));
-      padded = λ x y h k e. cells x y e ∙ ap₂ (λ (s t : Bool). cond s on t) (pair-past x y k) (made .padded x y h k e);
-      counted = counted;
-      within = within }
+      record {
+        small = made .small;
+        limit-bound = made .limit-bound;
+        enough = omega (arith, made .enough, w .same-length);
+        loopless = λ x h. cells x x (omega arith) ∙ ap₂ (λ (s t : Bool). cond s on t) (not-pair a b x x (λ u v. ne (u ∙ sym v)) (λ u v. ne (u ∙ sym v))) (made .loopless x h);
+        symmetric = λ x y h k. cells x y (omega arith) ∙ ap₂ (λ (s t : Bool). cond s on t) (pair-swap a b x y) (made .symmetric x y h k) ∙ sym (cells y x (omega arith));
+        padded = λ x y h k e. cells x y e ∙ ap₂ (λ (s t : Bool). cond s on t) (pair-past x y k) (made .padded x y h k e);
+        counted = counted;
+        within = within;
+      }
 
   back : matrix n words .linked b a ≡ matrix n words .linked a b
   back = linked-in n words b a m l ∙ made .symmetric b a m l ∙ sym (linked-in n words a b l m)
@@ -156,7 +158,8 @@ grown n limit count words after a b made l m ne off fits w =
       graph = λ i. record { size = n; linked = λ x y. (linked-after true n limit count words after a b made l m ne w x y ∙ or-cond (is-pair a b x y) (matrix n words .linked x y)) i };
       books = λ i. record { limit = limit; barred = λ _ _. false; spare = λ x. spares x i; room = room i };
       made = made-after true n limit count words after a b made l m ne w (count + 1)
-        (ap (λ (c : ℕ). c + 1) (made .counted) ∙ sym (link-count-more n (matrix n words .linked) (matrix n after .linked) a b l m ne more)) (omega arith) }
+          (ap (λ (c : ℕ). c + 1) (made .counted) ∙ sym (link-count-more n (matrix n words .linked) (matrix n after .linked) a b l m ne more)) (omega arith);
+    }
   where
     more : OneMore (matrix n words .linked) (matrix n after .linked) a b
     more = record {
@@ -164,9 +167,12 @@ grown n limit count words after a b made l m ne off fits w =
       off-back = back true n limit count words after a b made l m ne w ∙ off;
       on = here true n limit count words after a b made l m ne w;
       on-back = there true n limit count words after a b made l m ne w;
-      same = same true n limit count words after a b made l m ne w }
+      same = same true n limit count words after a b made l m ne w;
+    }
+
     spares : (x : ℕ) → ledger n limit (count + 1) after .spare x ≡ lowered (ledger n limit count words) a b .spare x
     spares x = less-spare n (degree (matrix n words) x) (degree (matrix n after) x) (ltb x n) (eqb a x || eqb b x) (degree-more n (matrix n words .linked) (matrix n after .linked) a b l m ne more x)
+
     room : limit - (count + 1) ≡ (limit - count) - 1
     room = omega arith
 
@@ -192,7 +198,8 @@ shrunk n limit count words after a b less made l m ne on fewer w =
     record {
       graph = λ i. record { size = n; linked = λ x y. (linked-after false n limit count words after a b made l m ne w x y ∙ and-cond (is-pair a b x y) (matrix n words .linked x y)) i };
       books = λ i. record { limit = limit; barred = λ _ _. false; spare = λ x. spares x i; room = room i };
-      made = made-after false n limit count words after a b made l m ne w less (omega (arith, fewer, one-more)) (omega (arith, fewer, made .within)) }
+      made = made-after false n limit count words after a b made l m ne w less (omega (arith, fewer, one-more)) (omega (arith, fewer, made .within));
+    }
   where
     more : OneMore (matrix n after .linked) (matrix n words .linked) a b
     more = record {
@@ -200,16 +207,20 @@ shrunk n limit count words after a b less made l m ne on fewer w =
       off-back = there false n limit count words after a b made l m ne w;
       on = on;
       on-back = back false n limit count words after a b made l m ne w ∙ on;
-      same = λ x y e. sym (same false n limit count words after a b made l m ne w x y e) }
+      same = λ x y e. sym (same false n limit count words after a b made l m ne w x y e);
+    }
+
     one-more : count ≡ link-count (matrix n after) + 1
     one-more = made .counted ∙ link-count-more n (matrix n after .linked) (matrix n words .linked) a b l m ne more
+
     room : limit - less ≡ (limit - count) + 1
     room = omega (arith, fewer, one-more, made .within)
+
     spares : (x : ℕ) → ledger n limit less after .spare x ≡ raised (ledger n limit count words) a b .spare x
     spares x =
         ⊎-elim
         (λ u. rw (lt-ltb x n u) (more-spare n (degree (matrix n words) x) (degree (matrix n after) x) (eqb a x || eqb b x)
-            (degree-more n (matrix n after .linked) (matrix n words .linked) a b l m ne more x)
-            (count-lt n (matrix n words .linked x) x u (linked-in n words x x u u ∙ made .loopless x u))))
+        (degree-more n (matrix n after .linked) (matrix n words .linked) a b l m ne more x)
+        (count-lt n (matrix n words .linked x) x u (linked-in n words x x u u ∙ made .loopless x u))))
         (λ u. rw (le-ltb x n u, or-from (eqb a x) (eqb b x) (ne-eqb a x (λ e. omega arith)) (ne-eqb b x (λ e. omega arith))))
         (cases-lt x n)

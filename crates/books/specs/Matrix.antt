@@ -56,7 +56,8 @@ ledger n limit count words =
       limit = limit;
       barred = λ _ _. false;
       spare = λ a. cond (ltb a n) (n - 1 - degree (matrix n words) a) 0;
-      room = limit - count }
+      room = limit - count;
+    }
 
 abbrev pub matrix-ledger : BitMatrix → Ledger
 matrix-ledger m = ledger (m .size) (m .limit) (m .count) (m .words .now)

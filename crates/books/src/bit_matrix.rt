@@ -71,11 +71,21 @@ impl<'a> BitMatrix<'a> {
         ensures lender { λ r. ⌜ name (r .words) ≡ name (words .entry) ⌝ }
     {
         if BitMatrix::check(size, limit, words).is_err() {
-            return BitMatrix { size: 0, limit: 0, count: 0, words };
+            return BitMatrix {
+                size: 0,
+                limit: 0,
+                count: 0,
+                words,
+            };
         }
         let used = row_start(size, size);
         words[0..used].fill(0);
-        BitMatrix { size, limit, count: 0, words }
+        BitMatrix {
+            size,
+            limit,
+            count: 0,
+            words,
+        }
     }
 }
 
@@ -88,7 +98,11 @@ impl BitMatrix<'_> {
             return 0;
         }
         let i = row_start(self.size, a) + k;
-        if i < self.words.len() { self.words[i] } else { 0 }
+        if i < self.words.len() {
+            self.words[i]
+        } else {
+            0
+        }
     }
 }
 
@@ -102,7 +116,11 @@ fn put(words: &mut [u64], size: usize, a: usize, b: usize, on: bool)
     }
     let i = row_start(size, a) + b / 64;
     if i < words.len() {
-        words[i] = if on { with_bit(words[i], b) } else { without_bit(words[i], b) };
+        words[i] = if on {
+            with_bit(words[i], b)
+        } else {
+            without_bit(words[i], b)
+        };
     }
 }
 

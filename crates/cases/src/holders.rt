@@ -31,12 +31,24 @@ fn by_book(refusal: Refusal) -> Result<(), Refused> {
 fn row_limits() -> Result<(), Fail> {
     let numbers = [0u16; 65536];
     check_eq(SortedRows::check(256, 255, 32640, &numbers), Ok(()))?;
-    check_eq(SortedRows::check(256, 255, 32640, &numbers[0..65535]), by_book(Refusal::WrongLength))?;
-    check_eq(SortedRows::check(257, 0, 0, &numbers), by_book(Refusal::SizeOutOfRange))?;
+    check_eq(
+        SortedRows::check(256, 255, 32640, &numbers[0..65535]),
+        by_book(Refusal::WrongLength),
+    )?;
+    check_eq(
+        SortedRows::check(257, 0, 0, &numbers),
+        by_book(Refusal::SizeOutOfRange),
+    )?;
     for (row_limit, limit) in [(0, 1), (256, 1), (1, 0), (1, 32641)] {
-        check_eq(SortedRows::check(1, row_limit, limit, &[]), by_book(Refusal::LimitOutOfRange))?;
+        check_eq(
+            SortedRows::check(1, row_limit, limit, &[]),
+            by_book(Refusal::LimitOutOfRange),
+        )?;
     }
-    check_eq(SortedRows::check(3, 1, 3, &numbers[0..5]), by_book(Refusal::WrongLength))
+    check_eq(
+        SortedRows::check(3, 1, 3, &numbers[0..5]),
+        by_book(Refusal::WrongLength),
+    )
 }
 
 // Every pair of 256 loads, in rows of 255 each.
@@ -125,7 +137,10 @@ fn lists() -> Result<(), Fail> {
         Entry { a: 1, b: 2 },
     ];
     check_eq(LinkList::check(4, &[]), Ok(()))?;
-    check_eq(LinkList::check(0, &entries), by_book(Refusal::SizeOutOfRange))?;
+    check_eq(
+        LinkList::check(0, &entries),
+        by_book(Refusal::SizeOutOfRange),
+    )?;
     check_eq(LinkList::check(257, &[]), by_book(Refusal::SizeOutOfRange))?;
     // the last entry does not rise; with three loads the second is out of bounds
     check_eq(LinkList::check(4, &entries), by_book(Refusal::BadEntry(3)))?;

@@ -50,7 +50,10 @@ fn sizes() -> Result<(), Fail> {
         check_eq(BitMatrix::check(size, 1, &words), Ok(()))?;
     }
     for size in [0, 257, usize::MAX] {
-        check_eq(BitMatrix::check(size, 1, &words), by_book(Refusal::SizeOutOfRange))?;
+        check_eq(
+            BitMatrix::check(size, 1, &words),
+            by_book(Refusal::SizeOutOfRange),
+        )?;
     }
     Ok(())
 }
@@ -62,20 +65,39 @@ fn limits() -> Result<(), Fail> {
         check_eq(BitMatrix::check(256, limit, &words), Ok(()))?;
     }
     for limit in [0, 32641, usize::MAX] {
-        check_eq(BitMatrix::check(256, limit, &words), by_book(Refusal::LimitOutOfRange))?;
+        check_eq(
+            BitMatrix::check(256, limit, &words),
+            by_book(Refusal::LimitOutOfRange),
+        )?;
     }
     // the first reason counts
-    check_eq(BitMatrix::check(0, 0, &[]), by_book(Refusal::SizeOutOfRange))?;
-    check_eq(BitMatrix::check(1, 0, &[]), by_book(Refusal::LimitOutOfRange))
+    check_eq(
+        BitMatrix::check(0, 0, &[]),
+        by_book(Refusal::SizeOutOfRange),
+    )?;
+    check_eq(
+        BitMatrix::check(1, 0, &[]),
+        by_book(Refusal::LimitOutOfRange),
+    )
 }
 
 // A row has a word for each 64 loads begun.
 #[test]
 fn memory() -> Result<(), Fail> {
     let words = [0u64; 1024];
-    for (size, need) in [(1, 1), (64, 64), (65, 130), (128, 256), (129, 387), (256, 1024)] {
+    for (size, need) in [
+        (1, 1),
+        (64, 64),
+        (65, 130),
+        (128, 256),
+        (129, 387),
+        (256, 1024),
+    ] {
         check_eq(BitMatrix::check(size, 1, &words[0..need]), Ok(()))?;
-        check_eq(BitMatrix::check(size, 1, &words[0..need - 1]), by_book(Refusal::WrongLength))?;
+        check_eq(
+            BitMatrix::check(size, 1, &words[0..need - 1]),
+            by_book(Refusal::WrongLength),
+        )?;
     }
     Ok(())
 }

@@ -9,8 +9,14 @@ use std::test::*;
 
 #[test]
 fn extremes() -> Result<(), Fail> {
-    let low = Place { x: i32::MIN, y: i32::MIN };
-    let high = Place { x: i32::MAX, y: i32::MAX };
+    let low = Place {
+        x: i32::MIN,
+        y: i32::MIN,
+    };
+    let high = Place {
+        x: i32::MAX,
+        y: i32::MAX,
+    };
     check_eq(low.distance(high), 8589934590)?;
     check_eq(high.distance(low), 8589934590)?;
     check_eq(low.distance(Place::ORIGIN), 4294967296)?;

@@ -39,5 +39,5 @@ pub through : {B : Type 0} (graph : B → Graph) (made : B → Type 0) (ledger :
     → Stands (filter-graph graph) (filter-made made) (filter-ledger graph ledger) f (filtered hid g) (filtered-ledger hid (g .size) l)
 through graph made ledger hid below f g l stands clause =
     subst (λ (m : Ledger). Stands (filter-graph graph) (filter-made made) (filter-ledger graph ledger) f (filtered hid g) (filtered-ledger hid (g .size) m)) (stands .ledger-is)
-      (subst (λ (h : Graph). Stands (filter-graph graph) (filter-made made) (filter-ledger graph ledger) f (filtered hid h) (filtered-ledger hid (h .size) (ledger below))) (stands .graph-is)
-        (clause (stands .still-made)))
+    (subst (λ (h : Graph). Stands (filter-graph graph) (filter-made made) (filter-ledger graph ledger) f (filtered hid h) (filtered-ledger hid (h .size) (ledger below))) (stands .graph-is)
+    (clause (stands .still-made)))

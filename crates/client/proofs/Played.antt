@@ -25,9 +25,9 @@ module _ {S : Type 0} (graph : S → Graph) (made : S → Type 0) (ledger : S �
   -- the reason of a call on a value that stands for g and l
   reason-at : (s t : S) (g : Graph) (l : Ledger) (a b : ℕ) (r : Result Unit Refused) → Stands graph made ledger s g l → Adds graph made ledger s a b r t → Answers (adding g l a b) r (λ _. Stands graph made ledger t (added g a b) (lowered l a b))
   reason-at s t g l a b r stands adds =
-    subst (λ (h : Graph). Answers (adding h l a b) r (λ _. Stands graph made ledger t (added h a b) (lowered l a b))) (stands .graph-is)
+      subst (λ (h : Graph). Answers (adding h l a b) r (λ _. Stands graph made ledger t (added h a b) (lowered l a b))) (stands .graph-is)
       (subst (λ (m : Ledger). Answers (adding (graph s) m a b) r (λ _. Stands graph made ledger t (added (graph s) a b) (lowered m a b))) (stands .ledger-is)
-        (adds .answers (stands .still-made)))
+      (adds .answers (stands .still-made)))
 
   -- a value that stands for g and l has no reason to refuse where these give none
   pub reason-none : (s : S) (g : Graph) (l : Ledger) (a b : ℕ) → Stands graph made ledger s g l → adding g l a b ≡ None → adding (graph s) (ledger s) a b ≡ None
@@ -43,5 +43,5 @@ module _ {S : Type 0} (graph : S → Graph) (made : S → Type 0) (ledger : S �
 
   pub granted-then-refused : (s t u : S) (g : Graph) (l : Ledger) (a b x y number : ℕ) (first second : Result Unit Refused) → Stands graph made ledger s g l → Adds graph made ledger s a b first t → Adds graph made ledger t x y second u → adding g l a b ≡ None → adding (added g a b) (lowered l a b) x y ≡ by-book number → GrantedThenRefused number first second
   granted-then-refused s t u g l a b x y number first second stands one two none reason =
-    let (yes-one, after) = granted g l a b t first (reason-at s t g l a b first stands one) none in
-    record { granted = yes-one; refused = refused (added g a b) (lowered l a b) x y number u second (reason-at t u (added g a b) (lowered l a b) x y second after two) reason }
+      let (yes-one, after) = granted g l a b t first (reason-at s t g l a b first stands one) none in
+      record { granted = yes-one; refused = refused (added g a b) (lowered l a b) x y number u second (reason-at t u (added g a b) (lowered l a b) x y second after two) reason }

@@ -50,13 +50,13 @@ count-more zero p q a l off on same = absurd (omega arith)
 count-more (suc n) p q a l off on same =
     ⊎-elim
     (λ e.
-        let before : count n q ≡ count n p = count-ext n q p (λ k m. same k (omega arith) (λ f. omega arith)) in
-        let here : q n ≡ true = ap q e ∙ on in
-        let not-here : p n ≡ false = ap p e ∙ off in
-        rw (here, not-here) (omega arith))
+    let before : count n q ≡ count n p = count-ext n q p (λ k m. same k (omega arith) (λ f. omega arith)) in
+    let here : q n ≡ true = ap q e ∙ on in
+    let not-here : p n ≡ false = ap p e ∙ off in
+    rw (here, not-here) (omega arith))
     (λ ne.
-        let here : q n ≡ p n = same n (omega arith) ne in
-        rw here (omega (arith, count-more n p q a (omega (arith, ne)) off on (λ k m f. same k (omega arith) f))))
+    let here : q n ≡ p n = same n (omega arith) ne in
+    rw here (omega (arith, count-more n p q a (omega (arith, ne)) off on (λ k m f. same k (omega arith) f))))
     (cases-eq n a)
 
 pub total-more : (n : ℕ) (f g : ℕ → ℕ) (a : ℕ) → a < n → g a ≡ f a + 1 → ((k : ℕ) → (k ≡ a → ⊥) → g k ≡ f k) → total n g ≡ total n f + 1
@@ -64,18 +64,20 @@ total-more zero f g a l up same = absurd (omega arith)
 total-more (suc n) f g a l up same =
     ⊎-elim
     (λ e.
-        let before : total n g ≡ total n f = total-ext n g f (λ k m. same k (λ x. omega arith)) in
-        let here : g n ≡ f n + 1 = subst (λ (x : ℕ). g x ≡ f x + 1) (sym e) up in
-        omega arith)
+    let before : total n g ≡ total n f = total-ext n g f (λ k m. same k (λ x. omega arith)) in
+    let here : g n ≡ f n + 1 = subst (λ (x : ℕ). g x ≡ f x + 1) (sym e) up in
+    omega arith)
     (λ ne. omega (arith, same n ne, total-more n f g a (omega (arith, ne)) up same))
     (cases-eq n a)
 
 -- a test that fails somewhere passes fewer than all
 pub count-lt : (n : ℕ) (p : ℕ → Bool) (a : ℕ) → a < n → p a ≡ false → count n p < n
 count-lt n p a l off =
-    omega (arith,
-        count-more n p (λ k. p k || eqb a k) a l off (or-right (p a) (eqb a a) (eq-eqb a a refl)) (λ k _ ne. or-off (p k) (eqb a k) (ne-eqb a k (λ e. ne (sym e)))),
-        count-le n (λ k. p k || eqb a k))
+    omega (
+      arith,
+      count-more n p (λ k. p k || eqb a k) a l off (or-right (p a) (eqb a a) (eq-eqb a a refl)) (λ k _ ne. or-off (p k) (eqb a k) (ne-eqb a k (λ e. ne (sym e)))),
+      count-le n (λ k. p k || eqb a k),
+    )
   where
     or-off : (x y : Bool) → y ≡ false → (x || y) ≡ x
     or-off true y e = refl
@@ -131,20 +133,20 @@ link-count-more n p q a b l m ne c =
     ⊎-elim
     (λ e. absurd (ne e))
     (λ o. ⊎-elim
-        (λ k. higher-more n p q b a k m (c .off-back) (c .on-back) (λ x y yx f. c .same x y (not-pair a b x y (λ u v. omega arith) (λ u v. f (sym v) (sym u)))))
-        (λ k. higher-more n p q a b k l (c .off) (c .on) (λ x y yx f. c .same x y (not-pair a b x y (λ u v. f (sym u) (sym v)) (λ u v. omega arith))))
-        o)
+    (λ k. higher-more n p q b a k m (c .off-back) (c .on-back) (λ x y yx f. c .same x y (not-pair a b x y (λ u v. omega arith) (λ u v. f (sym v) (sym u)))))
+    (λ k. higher-more n p q a b k l (c .off) (c .on) (λ x y yx f. c .same x y (not-pair a b x y (λ u v. f (sym u) (sym v)) (λ u v. omega arith))))
+    o)
     (cases-order a b)
 
 pub degree-more : (n : ℕ) (p q : ℕ → ℕ → Bool) (a b : ℕ) → a < n → b < n → (a ≡ b → ⊥) → OneMore p q a b → (x : ℕ) → count n (q x) ≡ count n (p x) + cond (eqb a x || eqb b x) 1 0
 degree-more n p q a b l m ne c x =
     ⊎-elim
     (λ e. rw (or-left (eqb a x) (eqb b x) (eq-eqb a x e)) (subst (λ (w : ℕ). count n (q w) ≡ count n (p w) + 1) e
-        (count-more n (p a) (q a) b m (c .off) (c .on) (λ k _ u. c .same a k (not-pair a b a k (λ _ v. u (sym v)) (λ _ v. ne (sym v)))))))
+    (count-more n (p a) (q a) b m (c .off) (c .on) (λ k _ u. c .same a k (not-pair a b a k (λ _ v. u (sym v)) (λ _ v. ne (sym v)))))))
     (λ d. ⊎-elim
-        (λ e. rw (or-right (eqb a x) (eqb b x) (eq-eqb b x e)) (subst (λ (w : ℕ). count n (q w) ≡ count n (p w) + 1) e
-            (count-more n (p b) (q b) a l (c .off-back) (c .on-back) (λ k _ u. c .same b k (not-pair a b b k (λ v _. ne v) (λ v _. u (sym v)))))))
-        (λ f. rw (or-from (eqb a x) (eqb b x) (ne-eqb a x d) (ne-eqb b x f))
-            (count-ext n (q x) (p x) (λ k _. c .same x k (not-pair a b x k (λ v _. d v) (λ _ v. f v))) ∙ sym (add-zero (count n (p x)))))
-        (cases-eq b x))
+    (λ e. rw (or-right (eqb a x) (eqb b x) (eq-eqb b x e)) (subst (λ (w : ℕ). count n (q w) ≡ count n (p w) + 1) e
+    (count-more n (p b) (q b) a l (c .off-back) (c .on-back) (λ k _ u. c .same b k (not-pair a b b k (λ v _. ne v) (λ v _. u (sym v)))))))
+    (λ f. rw (or-from (eqb a x) (eqb b x) (ne-eqb a x d) (ne-eqb b x f))
+    (count-ext n (q x) (p x) (λ k _. c .same x k (not-pair a b x k (λ v _. d v) (λ _ v. f v))) ∙ sym (add-zero (count n (p x)))))
+    (cases-eq b x))
     (cases-eq a x)

@@ -42,16 +42,19 @@ one-path g s p a b h =
       ends = h .ends;
       links = links;
       outside = outside;
-      inside = λ i l odd. absurd (omega arith) }
+      inside = λ i l odd. absurd (omega arith);
+    }
   where
     different : (i j : ℕ) → i < j → j ≤ 1 → at (a ∷ b ∷ []) i ≡ at (a ∷ b ∷ []) j → ⊥
     different zero zero l m = absurd (omega arith)
     different zero (suc zero) l m = linked-apart g s a b (h .link)
     different zero (suc (suc j)) l m = absurd (omega arith)
     different (suc i) j l m = absurd (omega arith)
+
     links : (i : ℕ) → i < 1 → g .linked (at (a ∷ b ∷ []) i) (at (a ∷ b ∷ []) (i + 1)) ≡ true
     links zero l = h .link
     links (suc i) l = absurd (omega arith)
+
     outside : (i : ℕ) → i < 1 → i % 2 ≡ 0 → p (at (a ∷ b ∷ []) i) ≡ Some (at (a ∷ b ∷ []) (i + 1)) → ⊥
     outside zero l even = free-taken (p a) b (h .begins)
     outside (suc i) l even = absurd (omega arith)
@@ -66,15 +69,21 @@ three-shape g p [] h = absurd (omega (arith, h .loads))
 three-shape g p (a ∷ []) h = absurd (omega (arith, h .loads))
 three-shape g p (a ∷ x ∷ []) h = absurd (omega (arith, h .loads))
 three-shape g p (a ∷ x ∷ y ∷ []) h = absurd (omega (arith, h .loads))
-three-shape g p (a ∷ x ∷ y ∷ z ∷ []) h =
-    ( a, x, y, z, refl
-    , record {
-        begins = h .begins;
-        first = h .links 0 (omega arith);
-        pair = h .inside 1 (omega arith) refl;
-        last = h .links 2 (omega arith);
-        ends = h .ends;
-        apart = h .different 0 3 (omega arith) (omega arith) } )
+three-shape g p (a ∷ x ∷ y ∷ z ∷ []) h = (
+  a,
+  x,
+  y,
+  z,
+  refl,
+  record {
+    begins = h .begins;
+    first = h .links 0 (omega arith);
+    pair = h .inside 1 (omega arith) refl;
+    last = h .links 2 (omega arith);
+    ends = h .ends;
+    apart = h .different 0 3 (omega arith) (omega arith);
+  },
+)
 three-shape g p (a ∷ x ∷ y ∷ z ∷ w ∷ rest) h = absurd (omega (arith, h .loads))
 
 module _ (g : Graph) (s : Simple g) (p : Partners) (matching : Matching g p) (a x y z : ℕ) (h : FreeWalk g p a x y z) where
@@ -116,15 +125,16 @@ module _ (g : Graph) (s : Simple g) (p : Partners) (matching : Matching g p) (a 
 
   three-path : Augmenting g p 3 (a ∷ x ∷ y ∷ z ∷ [])
   three-path =
-    record {
-      positive = omega arith;
-      loads = refl;
-      different = walk-different;
-      begins = h .begins;
-      ends = h .ends;
-      links = walk-links;
-      outside = walk-outside;
-      inside = walk-inside }
+      record {
+        positive = omega arith;
+        loads = refl;
+        different = walk-different;
+        begins = h .begins;
+        ends = h .ends;
+        links = walk-links;
+        outside = walk-outside;
+        inside = walk-inside;
+      }
 
 pub of-three : (g : Graph) → Simple g → (p : Partners) → Matching g p → OfThree g p
 of-three g s p matching = record { shape = three-shape g p; path = three-path g s p matching }

@@ -83,7 +83,10 @@ impl Refused {
     pub fn by_book(refusal: Refusal) -> Refused
         ensures { λ r. ⌜ r ≡ record { refusal = refusal; layer = Layer.Book } ⌝ }
     {
-        Refused { refusal, layer: Layer::Book }
+        Refused {
+            refusal,
+            layer: Layer::Book,
+        }
     }
 }
 

@@ -65,7 +65,10 @@ fn answer(
             let number = refused.refusal.number();
             let why = reason(refused.refusal);
             let layer = layer_name(refused.layer);
-            println!(rt, "{call} {a} {b}: refused by the {layer} with {number}, {why}")
+            println!(
+                rt,
+                "{call} {a} {b}: refused by the {layer} with {number}, {why}"
+            )
         }
     }
 }
@@ -96,12 +99,24 @@ fn list_links<L: Links>(rt: &impl Print, links: &L, n: usize) -> io::Result<()> 
 
 fn judge<L: Links>(rt: &impl Print, links: &L, claims: &[u16]) -> io::Result<()> {
     match audit(links, claims) {
-        Ok(Verdict::Sound) => println!(rt, "  sound: no path of one or three links joins two free loads"),
-        Ok(Verdict::NotReturned(a)) => println!(rt, "  fault: load {a} claims a partner that does not claim it back"),
-        Ok(Verdict::NotLinked(a)) => println!(rt, "  fault: load {a} is not linked to the partner that it claims"),
+        Ok(Verdict::Sound) => println!(
+            rt,
+            "  sound: no path of one or three links joins two free loads"
+        ),
+        Ok(Verdict::NotReturned(a)) => println!(
+            rt,
+            "  fault: load {a} claims a partner that does not claim it back"
+        ),
+        Ok(Verdict::NotLinked(a)) => println!(
+            rt,
+            "  fault: load {a} is not linked to the partner that it claims"
+        ),
         Ok(Verdict::PathOfOne((a, b))) => println!(rt, "  fault: {a} and {b} are free, and linked"),
         Ok(Verdict::PathOfThree((a, x, y, z))) => {
-            println!(rt, "  fault: {a} and {z} are free, and the path {a} {x} {y} {z} would pair both")
+            println!(
+                rt,
+                "  fault: {a} and {z} are free, and the path {a} {x} {y} {z} would pair both"
+            )
         }
         Err(refused) => println!(rt, "  refused with {}", refused.refusal.number()),
     }
@@ -146,7 +161,10 @@ fn rows_and_filter(rt: &impl Print) -> io::Result<()> {
     for (a, b) in [(0, 3), (0, 1), (0, 2)] {
         add(rt, &mut book, a, b)?;
     }
-    println!(rt, "The same rows behind a filter that bars class 1 with class 2.")?;
+    println!(
+        rt,
+        "The same rows behind a filter that bars class 1 with class 2."
+    )?;
     let mut filtered = ClassFilter::new(book, &[1, 1, 0, 2], [0, 4, 0, 0, 0, 0, 0, 0]);
     list_links(rt, &filtered, 4)?;
     add(rt, &mut filtered, 1, 3)?;
@@ -154,7 +172,13 @@ fn rows_and_filter(rt: &impl Print) -> io::Result<()> {
     add(rt, &mut filtered, 1, 2)
 }
 
-fn compare<R: Ranking>(rt: &impl Print, how: &str, ranking: &R, x: usize, y: usize) -> io::Result<()> {
+fn compare<R: Ranking>(
+    rt: &impl Print,
+    how: &str,
+    ranking: &R,
+    x: usize,
+    y: usize,
+) -> io::Result<()> {
     if ranking.comes_first(0, x, y) {
         println!(rt, "{how}: for load 0, load {x} comes before load {y}")
     } else {
@@ -170,7 +194,12 @@ fn rankings(rt: &impl Print) -> io::Result<()> {
         Place { x: 5, y: 1 },
     ];
     let by_detour = ByDetour::new(&places);
-    println!(rt, "the detours from load 0 are {} and {}", by_detour.detour(0, 1), by_detour.detour(0, 2))?;
+    println!(
+        rt,
+        "the detours from load 0 are {} and {}",
+        by_detour.detour(0, 1),
+        by_detour.detour(0, 2)
+    )?;
     compare(rt, "by number", &ByNumber, 1, 2)?;
     compare(rt, "by detour", &by_detour, 1, 2)
 }

@@ -13,5 +13,5 @@ returns c =
     let stands = through matrix-graph matrix-made matrix-ledger (hidden [] (replicate 8 0)) (c .new-below .result) (c .new-book .result) (edgeless 3) (fresh 3 3) (c .new-below .ensures .making .0) (c .new-book .ensures .stands) in
     asked _ (c .add-and-ask .result)
     (reason-none (filter-graph matrix-graph) (filter-made matrix-made) (filter-ledger matrix-graph matrix-ledger) (c .new-book .result) (filtered (hidden [] (replicate 8 0)) (edgeless 3)) (filtered-ledger (hidden [] (replicate 8 0)) 3 (fresh 3 3)) 0 1 stands
-        (adding-through (hidden [] (replicate 8 0)) (edgeless 3) (fresh 3 3) 0 1 open-pair ∙ refl))
+    (adding-through (hidden [] (replicate 8 0)) (edgeless 3) (fresh 3 3) 0 1 open-pair ∙ refl))
     (c .add-and-ask .ensures .answer (stands .still-made))

@@ -12,10 +12,10 @@ pub returns : need.returns
 returns c =
     let inner = through matrix-graph matrix-made matrix-ledger (hidden [] (replicate 8 0)) (c .new-below .result) (c .new-inner .result) (edgeless 3) (fresh 3 3) (c .new-below .ensures .making .0) (c .new-inner .ensures .stands) in
     let stands = through (filter-graph matrix-graph) (filter-made matrix-made) (filter-ledger matrix-graph matrix-ledger) (hidden [] (replicate 8 0)) (c .new-inner .result) (c .new-book .result)
-        (filtered (hidden [] (replicate 8 0)) (edgeless 3)) (filtered-ledger (hidden [] (replicate 8 0)) 3 (fresh 3 3)) inner (c .new-book .ensures .stands) in
+    (filtered (hidden [] (replicate 8 0)) (edgeless 3)) (filtered-ledger (hidden [] (replicate 8 0)) 3 (fresh 3 3)) inner (c .new-book .ensures .stands) in
     asked _ (c .add-and-ask .result)
     (reason-none (filter-graph (filter-graph matrix-graph)) (filter-made (filter-made matrix-made)) (filter-ledger (filter-graph matrix-graph) (filter-ledger matrix-graph matrix-ledger)) (c .new-book .result)
-        (filtered (hidden [] (replicate 8 0)) (filtered (hidden [] (replicate 8 0)) (edgeless 3))) (filtered-ledger (hidden [] (replicate 8 0)) 3 (filtered-ledger (hidden [] (replicate 8 0)) 3 (fresh 3 3))) 0 1 stands
-        (adding-through (hidden [] (replicate 8 0)) (filtered (hidden [] (replicate 8 0)) (edgeless 3)) (filtered-ledger (hidden [] (replicate 8 0)) 3 (fresh 3 3)) 0 1 open-pair
-        ∙ adding-through (hidden [] (replicate 8 0)) (edgeless 3) (fresh 3 3) 0 1 open-pair ∙ refl))
+    (filtered (hidden [] (replicate 8 0)) (filtered (hidden [] (replicate 8 0)) (edgeless 3))) (filtered-ledger (hidden [] (replicate 8 0)) 3 (filtered-ledger (hidden [] (replicate 8 0)) 3 (fresh 3 3))) 0 1 stands
+    (adding-through (hidden [] (replicate 8 0)) (filtered (hidden [] (replicate 8 0)) (edgeless 3)) (filtered-ledger (hidden [] (replicate 8 0)) 3 (fresh 3 3)) 0 1 open-pair
+    ∙ adding-through (hidden [] (replicate 8 0)) (edgeless 3) (fresh 3 3) 0 1 open-pair ∙ refl))
     (c .add-and-ask .ensures .answer (stands .still-made))

@@ -8,4 +8,5 @@ pub returns : need.returns
 returns c =
     record {
       value = ap (λ (w : ℕ). c .args .a * w) (c .row-words .ensures .value);
-      bound = omega (arith, mul-le (c .args .a) (c .row-words .result) 256 4 (omega arith) (omega arith)) }
+      bound = omega (arith, mul-le (c .args .a) (c .row-words .result) 256 4 (omega arith) (omega arith));
+    }
