@@ -9,16 +9,17 @@ use lib.Dec.{ltb}
 use lib.ListN.{length, getD}
 use Rattle.std.proofs.shelf.Tests.{cases-lt}
 use Rattle.std.proofs.shelf.Ways.{tells}
+use Rattle.std.specs.declared.option.Option.the-variants.{None}
 use Rattle.graph.specs.Graph.{degree, link-count}
 use Rattle.graph.proofs.Counts.{count-none, link-count-none}
 use Rattle.bits.specs.Bit.{bit}
 use Rattle.bits.proofs.Bitwise.{bit-zero}
 use Rattle.books.specs.declared.bit_matrix.BitMatrix.{BitMatrix}
-use Rattle.books.specs.Matrix.{row-words, all-words, word-at, cell, matrix, matrix-graph, granted, Fresh}
+use Rattle.books.specs.Matrix.{row-words, all-words, word-at, cell, matrix, matrix-graph, checking, Fresh}
 use Rattle.books.proofs.Cells.{linked-in, linked-past, linked-past-row, word-in}
 
-pub granted-bounds : (n limit memory : ℕ) → granted n limit memory ≡ true → (n ≤ 256) × (limit ≤ 32640) × (all-words n ≤ memory)
-granted-bounds n limit memory e = grind (arith, tells)
+pub checked-bounds : (n limit memory : ℕ) → checking n limit memory ≡ None → (n ≤ 256) × (limit ≤ 32640) × (all-words n ≤ memory)
+checked-bounds n limit memory e = grind (arith, tells)
 
 abbrev Zeros : ℕ → List ℕ → Type 0
 Zeros used words = (k : ℕ) → k < used → getD words k 0 ≡ 0

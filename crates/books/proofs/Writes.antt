@@ -1,6 +1,6 @@
 -- A bit matrix after the two bits of a link were written.
 use mathlib.Core.Path.{_≡_, refl, sym, ap, ap₂, subst, _∙_}
-use mathlib.Core.Bool.{Bool, true, false, cond, _&&_, _||_, not}
+use mathlib.Core.Bool.{Bool, true, false, cond, _&&_, _||_, not, and-comm}
 use mathlib.Core.List.{List}
 use mathlib.Core.Logic.{⊎-elim}
 use Prim.Native.Nat.{ℕ, _+_, _-_, _*_, _/_, _%_, _≤_, _<_}
@@ -11,6 +11,7 @@ use lib.Seq.{getD-set-same, getD-set-other}
 use Rattle.std.proofs.shelf.Tests.{cases-lt, cases-eq, eq-eqb, ne-eqb, and-from, and-left, or-left, or-right, or-from, lt-ltb, le-ltb}
 use Rattle.graph.specs.Graph.{is-pair, added, removed, degree, link-count}
 use Rattle.graph.proofs.Counts.{count-lt, OneMore, not-pair, link-count-more, degree-more}
+use Rattle.graph.proofs.Ends.{pair-here, pair-back, pair-swap, pair-past}
 use Rattle.links.specs.Books.{lowered, raised}
 use Rattle.bits.specs.Bit.{bit}
 use Rattle.books.specs.Matrix.{row-words, all-words, word-at, cell, is-place, is-link-place, matrix, ledger, Made, Written}
@@ -65,47 +66,23 @@ written-both on p q before mid after one two =
 
 -- ---- the links after it
 
-pair-here : (a b : ℕ) → is-pair a b a b ≡ true
-pair-here a b = or-left _ _ (and-from _ _ (eq-eqb a a refl) (eq-eqb b b refl))
-
-pair-back : (a b : ℕ) → is-pair a b b a ≡ true
-pair-back a b = or-right _ _ (and-from _ _ (eq-eqb a a refl) (eq-eqb b b refl))
-
-pair-swap : (a b x y : ℕ) → is-pair a b x y ≡ is-pair a b y x
-pair-swap a b x y = or-swap (eqb a x && eqb b y) (eqb a y && eqb b x)
-  where
-    or-swap : (s t : Bool) → (s || t) ≡ (t || s)
-    or-swap true true = refl
-    or-swap true false = refl
-    or-swap false true = refl
-    or-swap false false = refl
-
-and-swap : (s t : Bool) → (s && t) ≡ (t && s)
-and-swap true true = refl
-and-swap true false = refl
-and-swap false true = refl
-and-swap false false = refl
-
 module _ (on : Bool) (n limit count : ℕ) (words after : List ℕ) (a b : ℕ) (made : Made n limit count words) (l : a < n) (m : b < n) (ne : a ≡ b → ⊥) (w : Written on (is-link-place n a b) words after) where
-  pair-past : (x y : ℕ) → n ≤ y → is-pair a b x y ≡ false
-  pair-past x y h = not-pair a b x y (λ _ e. omega arith) (λ e _. omega arith)
-
   cells : (x y : ℕ) → y < 64 * row-words n → cell n after x y ≡ cond (is-pair a b x y) on (cell n words x y)
   unfolding cell
   cells x y h =
       w .bits (word-at n x y) (y % 64)
       ∙ ap₂ (λ (s t : Bool). cond (s || t) on (bit (getD words (word-at n x y) 0) (y % 64)))
       (same-place n a b x y (omega arith) h)
-      (same-place n b a x y (omega arith) h ∙ and-swap (eqb b x) (eqb a y))
+      (same-place n b a x y (omega arith) h ∙ and-comm (eqb b x) (eqb a y))
 
   pub linked-after : (x y : ℕ) → matrix n after .linked x y ≡ cond (is-pair a b x y) on (matrix n words .linked x y)
   linked-after x y =
       ⊎-elim
       (λ h. ⊎-elim
       (λ k. linked-in n after x y h k ∙ cells x y (omega arith) ∙ ap (λ (t : Bool). cond (is-pair a b x y) on t) (sym (linked-in n words x y h k)))
-      (λ k. linked-past n after x y k ∙ sym (ap₂ (λ (s t : Bool). cond s on t) (pair-past x y k) (linked-past n words x y k)))
+      (λ k. linked-past n after x y k ∙ sym (ap₂ (λ (s t : Bool). cond s on t) (pair-past n a b x y l m k) (linked-past n words x y k)))
       (cases-lt y n))
-      (λ h. linked-past-row n after x y h ∙ sym (ap₂ (λ (s t : Bool). cond s on t) (pair-swap a b x y ∙ pair-past y x h) (linked-past-row n words x y h)))
+      (λ h. linked-past-row n after x y h ∙ sym (ap₂ (λ (s t : Bool). cond s on t) (pair-swap a b x y ∙ pair-past n a b y x l m h) (linked-past-row n words x y h)))
       (cases-lt x n)
 
   pub made-after : (next : ℕ) → next ≡ link-count (matrix n after) → next ≤ limit → Made n limit next after
@@ -116,7 +93,7 @@ module _ (on : Bool) (n limit count : ℕ) (words after : List ℕ) (a b : ℕ) 
         enough = omega (arith, made .enough, w .same-length);
         loopless = λ x h. cells x x (omega arith) ∙ ap₂ (λ (s t : Bool). cond s on t) (not-pair a b x x (λ u v. ne (u ∙ sym v)) (λ u v. ne (u ∙ sym v))) (made .loopless x h);
         symmetric = λ x y h k. cells x y (omega arith) ∙ ap₂ (λ (s t : Bool). cond s on t) (pair-swap a b x y) (made .symmetric x y h k) ∙ sym (cells y x (omega arith));
-        padded = λ x y h k e. cells x y e ∙ ap₂ (λ (s t : Bool). cond s on t) (pair-past x y k) (made .padded x y h k e);
+        padded = λ x y h k e. cells x y e ∙ ap₂ (λ (s t : Bool). cond s on t) (pair-past n a b x y l m k) (made .padded x y h k e);
         counted = counted;
         within = within;
       }

@@ -1,13 +1,12 @@
 -- A graph in a bit matrix.
 use mathlib.Core.Path.{_≡_}
-use mathlib.Core.Bool.{Bool, true, false, cond, _&&_, _||_, not}
+use mathlib.Core.Bool.{Bool, false, cond, _&&_, _||_}
 use mathlib.Core.List.{List}
 use Prim.Native.Nat.{ℕ, _+_, _-_, _*_, _/_, _%_, _≤_, _<_}
 use lib.ListN.{length, getD}
 use lib.Dec.{eqb, ltb}
-use Rattle.std.specs.Options.{isSome}
 use Rattle.std.specs.declared.option.Option.{Option}
-use Rattle.std.specs.declared.option.Option.the-variants.{None}
+use Rattle.std.specs.declared.option.Option.the-variants.{Some, None}
 use Rattle.graph.specs.Graph.{Graph, degree, link-count, edgeless}
 use Rattle.links.specs.Books.{Ledger, Stands, by-book}
 use Rattle.links.specs.Memory.{Cleared}
@@ -85,9 +84,6 @@ checking n limit memory =
     (cond (eqb limit 0 || ltb 32640 limit) (by-book 2)
     (cond (ltb memory (all-words n)) (by-book 3) None))
 
-abbrev pub granted : ℕ → ℕ → ℕ → Bool
-granted n limit memory = not (isSome (checking n limit memory))
-
 abbrev pub fresh : ℕ → ℕ → Ledger
 fresh n limit =
     record { limit = limit; barred = λ _ _. false; spare = λ a. cond (ltb a n) (n - 1) 0; room = limit }
@@ -96,10 +92,10 @@ fresh n limit =
 abbrev pub Fresh : ℕ → ℕ → BitMatrix → Type 0
 Fresh n limit m = Stands matrix-graph matrix-made matrix-ledger m (edgeless n) (fresh n limit)
 
--- what is made of the memory: a matrix where the check grants one, else a book of no loads
-abbrev pub Making : Bool → ℕ → ℕ → List ℕ → BitMatrix → Type 0
-Making true n limit before m = Fresh n limit m × Cleared (all-words n) before (m .words .now)
-Making false n limit before m = Fresh 0 0 m × (m .words .now ≡ before)
+-- what is made in memory that held `before`: a matrix, or, where there is a reason to refuse it, a book of no loads
+abbrev pub Making : Option Reason → ℕ → ℕ → List ℕ → BitMatrix → Type 0
+Making None n limit before m = Fresh n limit m × Cleared (all-words n) before (m .words .now)
+Making (Some reason) n limit before m = Fresh 0 0 m × (m .words .now ≡ before)
 
 -- ---- one link written
 

@@ -4,11 +4,10 @@ ghost use mathlib.Core.Bool.{true, false};
 ghost use Prim.Native.Nat.{_+_, _*_, _≤_, _<_};
 ghost use denote.Ref.{name};
 ghost use lib.ListN.{length, getD};
-ghost use Rattle.std.specs.Options.{isSome};
 ghost use Rattle.std.specs.Results.{isOk};
 ghost use Rattle.links.specs.Books.{Adds, Removes};
 ghost use Rattle.links.specs.Refusals.{Answers};
-ghost use Rattle.books.specs.Matrix.{row-words, all-words, word-at, is-place, is-link-place, matrix-graph, matrix-ledger, matrix-made, checking, granted, Making, Written, Beyond};
+ghost use Rattle.books.specs.Matrix.{row-words, all-words, word-at, is-place, is-link-place, matrix-graph, matrix-ledger, matrix-made, checking, Making, Written, Beyond};
 use bits::bit_of;
 use bits::count_bits;
 use bits::next_bit;
@@ -67,24 +66,26 @@ impl<'a> BitMatrix<'a> {
     // Makes a book with no links. Where the check would refuse, it has no loads and the words stay as they are.
     pub fn new(size: usize, limit: usize, words: &'a mut [u64]) -> BitMatrix<'a>
         ensures made { λ r. ⌜ matrix-made r ⌝ }
-        ensures making { λ r. ⌜ Making (granted size limit (length (now (words .entry)))) size limit (now (words .entry)) r ⌝ }
+        ensures making { λ r. ⌜ Making (checking size limit (length (now (words .entry)))) size limit (now (words .entry)) r ⌝ }
         ensures lender { λ r. ⌜ name (r .words) ≡ name (words .entry) ⌝ }
     {
-        if BitMatrix::check(size, limit, words).is_err() {
-            return BitMatrix {
+        match BitMatrix::check(size, limit, words) {
+            Ok(()) => {
+                let used = row_start(size, size);
+                words[0..used].fill(0);
+                BitMatrix {
+                    size,
+                    limit,
+                    count: 0,
+                    words,
+                }
+            }
+            Err(_) => BitMatrix {
                 size: 0,
                 limit: 0,
                 count: 0,
                 words,
-            };
-        }
-        let used = row_start(size, size);
-        words[0..used].fill(0);
-        BitMatrix {
-            size,
-            limit,
-            count: 0,
-            words,
+            },
         }
     }
 }

@@ -1,22 +1,11 @@
--- What an answer says of the reason to refuse, and when there is none.
-use mathlib.Core.Path.{_≡_, refl, ap, _∙_}
-use mathlib.Core.Bool.{Bool, true, false}
+-- When there is no reason to refuse.
+use mathlib.Core.Path.{_≡_}
+use mathlib.Core.Bool.{true, false}
 use Prim.Native.Nat.{ℕ, _<_}
 use Rattle.std.proofs.shelf.Tests.{lt-leb, ne-eqb}
-use Rattle.std.specs.Options.{isSome}
-use Rattle.std.specs.Results.{isErr}
-use Rattle.std.specs.declared.option.Option.{Option}
 use Rattle.std.specs.declared.option.Option.the-variants.{None}
-use Rattle.std.specs.declared.result.Result.{Result}
-use Rattle.std.specs.declared.result.Result.the-variants.{Ok, Err}
 use Rattle.graph.specs.Graph.{Graph}
-use Rattle.links.specs.declared.Refused.{Refused}
 use Rattle.links.specs.Books.{Ledger, adding, removing}
-use Rattle.links.specs.Refusals.{Reason, Answers}
-
-pub reason-some : {A : Type 0} (reason : Option Reason) (r : Result A Refused) (Granted : A → Type 0) → Answers reason r Granted → isSome reason ≡ isErr r
-reason-some reason (Ok x) Granted h = ap isSome (h .0)
-reason-some reason (Err e) Granted h = ap isSome h
 
 pub adding-none : (g : Graph) (l : Ledger) (a b : ℕ) → a < g .size → b < g .size → (a ≡ b → ⊥) → l .barred a b ≡ false → g .linked a b ≡ false → (l .spare a ≡ 0 → ⊥) → (l .spare b ≡ 0 → ⊥) → (l .room ≡ 0 → ⊥) → adding g l a b ≡ None
 adding-none g l a b a-below b-below apart allowed unlinked a-spare b-spare room =

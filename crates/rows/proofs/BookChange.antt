@@ -11,7 +11,8 @@ use Rattle.std.specs.declared.option.Option.the-variants.{None}
 use Rattle.std.proofs.shelf.Tests.{cases-lt, cases-eq, lt-ltb, le-ltb, lt-leb, cond-true, eq-eqb, ne-eqb, or-from, or-left, or-right, and-from, and-right}
 use Rattle.graph.specs.Graph.{Graph, is-pair, added, removed, link-count}
 use Rattle.graph.proofs.Counts.{OneMore, not-pair, link-count-more}
-use Rattle.links.specs.Books.{Ledger, adding, removing, lowered, raised}
+use Rattle.graph.proofs.Ends.{pair-here, pair-back, pair-swap, pair-past}
+use Rattle.links.specs.Books.{Ledger, lowered, raised}
 use Rattle.rows.specs.Row.{entries, has, Insertable, row-with, Removable, row-without, RowMade}
 use Rattle.rows.specs.Rows.{row-of, with-row, row-loads, graph-of, ledger-of, RowsMade, RowChanged, both-changed}
 use Rattle.rows.proofs.Memory.{TwoRows, two-rows, row-end, row-of-with-other, length-with-row}
@@ -27,15 +28,6 @@ by-pair a b P pa pb others x =
     (λ na. ⊎-elim (λ e. subst P (sym e) pb) (λ nb. others x na nb) (cases-eq x b))
     (cases-eq x a)
 
-pair-here : (a b : ℕ) → is-pair a b a b ≡ true
-pair-here a b = or-left _ _ (and-from _ _ (eq-eqb a a refl) (eq-eqb b b refl))
-
-pair-back : (a b : ℕ) → is-pair a b b a ≡ true
-pair-back a b = or-right _ _ (and-from _ _ (eq-eqb a a refl) (eq-eqb b b refl))
-
-pair-swap : (a b x y : ℕ) → is-pair a b x y ≡ is-pair a b y x
-pair-swap a b x y = or-comm (eqb a x && eqb b y) (eqb a y && eqb b x)
-
 pair-first : (a b y : ℕ) → (a ≡ b → ⊥) → is-pair a b a y ≡ eqb b y
 pair-first a b y ne = rw (eq-eqb a a refl, ne-eqb b a (λ e. ne (sym e))) (ap (λ (t : Bool). eqb b y || t) (and-right (eqb a y) false refl) ∙ or-false (eqb b y))
 
@@ -45,17 +37,7 @@ pair-second a b y ne = rw (eq-eqb b b refl, ne-eqb a b ne) (and-true (eqb a y))
 pair-other : (a b x y : ℕ) → (x ≡ a → ⊥) → (x ≡ b → ⊥) → is-pair a b x y ≡ false
 pair-other a b x y na nb = not-pair a b x y (λ e _. na (sym e)) (λ _ e. nb (sym e))
 
-pair-past : (n a b x y : ℕ) → a < n → b < n → n ≤ y → is-pair a b x y ≡ false
-pair-past n a b x y la lb l = not-pair a b x y (λ _ e. omega arith) (λ e _. omega arith)
-
--- ---- nothing to refuse
-
-pub adding-none : (g : Graph) (l : Ledger) (a b : ℕ) → a < g .size → b < g .size → (a ≡ b → ⊥) → l .barred a b ≡ false → g .linked a b ≡ false → (l .spare a ≡ 0 → ⊥) → (l .spare b ≡ 0 → ⊥) → (l .room ≡ 0 → ⊥) → adding g l a b ≡ None
-adding-none g l a b la lb ne free off sa sb room =
-    rw (lt-leb (g .size) a la, lt-leb (g .size) b lb, ne-eqb a b ne, free, off, ne-eqb (l .spare a) 0 sa, ne-eqb (l .spare b) 0 sb, ne-eqb (l .room) 0 room)
-
-pub removing-none : (g : Graph) (a b : ℕ) → a < g .size → b < g .size → (a ≡ b → ⊥) → g .linked a b ≡ true → removing g a b ≡ None
-removing-none g a b la lb ne on = rw (lt-leb (g .size) a la, lt-leb (g .size) b lb, ne-eqb a b ne, on)
+-- ---- a row with room
 
 -- a load that has spare has room in its row
 pub room-from-spare : (n d a count spare : ℕ) → a < n → spare ≡ cond (ltb a n) (d - count) 0 → (spare ≡ 0 → ⊥) → count < d

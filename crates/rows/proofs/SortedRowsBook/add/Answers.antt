@@ -7,7 +7,8 @@ use lib.ListN.{getD}
 use Rattle.rows.specs.Row.{row-with}
 use Rattle.rows.specs.Rows.{row-of, graph-of, ledger-of, book-graph, book-ledger, book-made, RowsMade, both-changed}
 use Rattle.rows.proofs.Memory.{row-end}
-use Rattle.rows.proofs.BookChange.{grown, memory-with, adding-none, room-from-spare}
+use Rattle.links.proofs.Reasons.{adding-none}
+use Rattle.rows.proofs.BookChange.{grown, memory-with, room-from-spare}
 use Rattle.rows.proofs.SortedRowsBook.add.Needs as need
 
 pub returns : need.returns

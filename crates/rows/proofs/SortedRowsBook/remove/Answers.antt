@@ -6,7 +6,8 @@ use native.Mathlib.Omega.{arith}
 use Rattle.rows.specs.Row.{row-without}
 use Rattle.rows.specs.Rows.{graph-of, ledger-of, book-graph, book-made, RowsMade, both-changed}
 use Rattle.rows.proofs.Memory.{row-end}
-use Rattle.rows.proofs.BookChange.{shrunk, memory-without, removing-none}
+use Rattle.links.proofs.Reasons.{removing-none}
+use Rattle.rows.proofs.BookChange.{shrunk, memory-without}
 use Rattle.rows.proofs.SortedRowsBook.remove.Needs as need
 
 pub returns : need.returns
