@@ -7,13 +7,11 @@ use Prim.Native.Nat.{ℕ, _%_, _≤_, _<_}
 use native.Mathlib.Omega.{arith}
 use lib.Dec.{eqb, ltb}
 use lib.ListN.{getD}
-use Rattle.std.proofs.shelf.Tests.{and-parts, and-left, and-right, both-ways, cases-bool, cases-lt, eqb-true, ltb-true, or-cases}
-use Rattle.std.specs.declared.option.Option.{Option}
-use Rattle.std.specs.declared.option.Option.the-variants.{Some, None}
-use Rattle.graph.specs.Graph.{Graph, Simple, Next, link-count, added, removed, is-pair}
+use Rattle.std.proofs.shelf.Tests.{and-parts, and-left, and-right, eqb-true, ltb-true, or-cases}
+use Rattle.graph.specs.Graph.{Graph, Simple, link-count, added, removed, is-pair}
 use Rattle.links.specs.Books.{Ledger, Bounded, adding, removing}
 use Rattle.bits.specs.Bit.{bit}
-use Rattle.filter.specs.Classes.{class-of, bars-classes, hidden, filtered, filtered-ledger, NextBelow}
+use Rattle.filter.specs.Classes.{class-of, bars-classes, hidden, filtered, filtered-ledger}
 use Rattle.filter.proofs.Monotone.{count-mono, total-mono}
 
 -- ---- which pairs are hidden

@@ -2,7 +2,6 @@ use mathlib.Core.Path.{sym, ap, _∙_}
 use Prim.Native.Nat.{ℕ, _+_}
 use native.Mathlib.Omega.{arith}
 use Rattle.graph.proofs.Counts.{count-cut}
-use Rattle.filter.specs.Classes.{filter-graph}
 use Rattle.filter.proofs.Monotone.{count-first}
 use Rattle.filter.proofs.ClassFilter.count_visible.Needs as need
 
