@@ -1,3 +1,9 @@
 pub mod Paths
 pub mod Counts
+pub mod Injections
+pub mod Partners
+pub mod Short
+pub mod Pairs
+pub mod TwoThirds
+pub mod Changes
 pub mod Ends

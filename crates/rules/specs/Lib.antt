@@ -1,0 +1,9 @@
+pub mod Threshold
+pub mod First
+pub mod Repair
+pub mod Calls
+pub mod Health
+pub mod Theorems
+pub mod Laws
+pub mod Boards
+pub mod Mends
