@@ -31,4 +31,4 @@ Short-paths = (g : Graph) → Simple g → (p : Partners) → Matching g p → S
 -- a matching without augmenting paths of one or three links has at least two thirds of the pairs of every matching
 abbrev pub Two-thirds : Type 0
 Two-thirds = (g : Graph) → Simple g → (p q : Partners) → Matching g p → NoAugmenting g p 1 → NoAugmenting g p 3 → Matching g q →
-  2 * pairs (g .size) q ≤ 3 * pairs (g .size) p
+    2 * pairs (g .size) q ≤ 3 * pairs (g .size) p

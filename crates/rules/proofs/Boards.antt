@@ -21,7 +21,16 @@ use Rattle.rules.proofs.Updates.{paired-matching}
 
 pub row-played : Row
 row-played = record {
-  granted = refl; pairs = refl; counted = refl; departs = refl; links-left = refl; pairs-left = refl; spares-left = refl; room-left = refl; departs-no-more = refl }
+  granted = refl;
+  pairs = refl;
+  counted = refl;
+  departs = refl;
+  links-left = refl;
+  pairs-left = refl;
+  spares-left = refl;
+  room-left = refl;
+  departs-no-more = refl;
+}
 
 pub six-played : Six
 six-played = record { granted = refl; pairs = refl; parts = refl; pairs-then = refl }
@@ -31,20 +40,30 @@ star-played = record { granted = refl; free = refl; links = refl; links-once-mor
 
 pub refusals-told : Refusals
 refusals-told = record {
-  not-a-load = refl; same-load = refl; linked-already = refl; not-linked = refl; no-spare = refl; no-room = refl; partner-of-none = refl; withdraws-free = refl }
+  not-a-load = refl;
+  same-load = refl;
+  linked-already = refl;
+  not-linked = refl;
+  no-spare = refl;
+  no-room = refl;
+  partner-of-none = refl;
+  withdraws-free = refl;
+}
 
 pub fresh-proper : (n limit : ℕ) → n ≤ 256 → limit ≤ 32640 → Proper (edgeless n) (fresh-ledger n limit)
 fresh-proper n limit small bound =
-  let no-links = link-count-none (edgeless n) (λ _ _. refl) in
-  record {
-    simple = record { small = small; loopless = λ _. refl; symmetric = λ _ _. refl; below = λ a b e. absurd (both-ways false refl e) };
-    bounded = record {
-      limit-bound = bound;
-      within = omega arith;
-      barred-symmetric = λ _ _. refl;
-      barred-below = λ a b e. absurd (both-ways false refl e);
-      spare-below = λ a past. rw (le-ltb a n past) refl };
-    room-within = omega arith }
+    let no-links = link-count-none (edgeless n) (λ _ _. refl) in
+    record {
+      simple = record { small = small; loopless = λ _. refl; symmetric = λ _ _. refl; below = λ a b e. absurd (both-ways false refl e) };
+      bounded = record {
+        limit-bound = bound;
+        within = omega arith;
+        barred-symmetric = λ _ _. refl;
+        barred-below = λ a b e. absurd (both-ways false refl e);
+        spare-below = λ a past. rw (le-ltb a n past) refl;
+      };
+      room-within = omega arith;
+    }
 
 played-run : (start : Position) (calls : List Call) (x : Position) → Run by-number start x → Run by-number start (played calls x)
 played-run start [] x run = run
@@ -52,14 +71,14 @@ played-run start (c ∷ rest) x run = played-run start rest (after by-number x c
 
 played-simple : (n limit : ℕ) → n ≤ 256 → limit ≤ 32640 → (calls : List Call) → Simple (played calls (fresh n limit) .graph)
 played-simple n limit small bound calls =
-  law-of-runs by-number (edgeless n) (fresh-ledger n limit) (fresh-proper n limit small bound) (played calls (fresh n limit))
+    law-of-runs by-number (edgeless n) (fresh-ledger n limit) (fresh-proper n limit small bound) (played calls (fresh n limit))
     (played-run (fresh n limit) calls (fresh n limit) none) .sound .simple
 
 pub row-augmenting : Row-augmenting
 row-augmenting =
-  let s = played-simple 4 8 (omega arith) (omega arith) row-calls in
-  let nothing : Matching (row .graph) (λ _. None) = record { returned = λ u v e. absurd (free-taken None v refl e); linked = λ u v e. absurd (free-taken None v refl e) } in
-  of-three (row .graph) s (paired 1 2 (λ _. None)) (paired-matching (row .graph) s (λ _. None) nothing 1 2 refl refl refl) .path 0 1 2 3
+    let s = played-simple 4 8 (omega arith) (omega arith) row-calls in
+    let nothing : Matching (row .graph) (λ _. None) = record { returned = λ u v e. absurd (free-taken None v refl e); linked = λ u v e. absurd (free-taken None v refl e) } in
+    of-three (row .graph) s (paired 1 2 (λ _. None)) (paired-matching (row .graph) s (λ _. None) nothing 1 2 refl refl refl) .path 0 1 2 3
     (record { begins = refl; first = refl; pair = refl; last = refl; ends = refl; apart = λ e. omega arith })
 
 -- a walk over a pair to another free load is a path of three links
@@ -68,21 +87,24 @@ walk-unhealthy g limit p s a x y z walk h = h .no-path-of-three (a ∷ x ∷ y �
 
 pub in-turn : InTurn
 in-turn =
-  let walk : FreeWalk six-graph six-in-turn 4 3 1 5 = record { begins = refl; first = refl; pair = refl; last = refl; ends = refl; apart = λ e. omega arith } in
-  record {
-    left-over = walk;
-    unhealthy = walk-unhealthy six-graph 8 six-in-turn (removed-simple (six .graph) 0 1 (played-simple 6 8 (omega arith) (omega arith) six-calls)) 4 3 1 5 walk }
+    let walk : FreeWalk six-graph six-in-turn 4 3 1 5 = record { begins = refl; first = refl; pair = refl; last = refl; ends = refl; apart = λ e. omega arith } in
+    record {
+      left-over = walk;
+      unhealthy = walk-unhealthy six-graph 8 six-in-turn (removed-simple (six .graph) 0 1 (played-simple 6 8 (omega arith) (omega arith) six-calls)) 4 3 1 5 walk;
+    }
 
 pub closed : Closed
 closed = record {
   of-one = refl;
   of-zero = refl;
-  unhealthy = λ h. let back : triangle-closed 0 ≡ Some 1 = h .matching .returned 1 0 refl in let z : _≡_ {A = ℕ} 1 2 = cc (back) in omega arith }
+  unhealthy = λ h. let back : triangle-closed 0 ≡ Some 1 = h .matching .returned 1 0 refl in let z : _≡_ {A = ℕ} 1 2 = cc (back) in omega arith;
+}
 
 pub only-displaced-left : OnlyDisplaced
 only-displaced-left =
-  let walk : FreeWalk tail-graph tail-displaced 2 7 8 9 = record { begins = refl; first = refl; pair = refl; last = refl; ends = refl; apart = λ e. omega arith } in
-  record {
-    left-over = walk;
-    unhealthy = walk-unhealthy tail-graph 12 tail-displaced
-      (added-simple (tail .graph) 0 6 (played-simple 10 12 (omega arith) (omega arith) tail-calls) (λ e. omega arith) (omega arith) (omega arith)) 2 7 8 9 walk }
+    let walk : FreeWalk tail-graph tail-displaced 2 7 8 9 = record { begins = refl; first = refl; pair = refl; last = refl; ends = refl; apart = λ e. omega arith } in
+    record {
+      left-over = walk;
+      unhealthy = walk-unhealthy tail-graph 12 tail-displaced
+          (added-simple (tail .graph) 0 6 (played-simple 10 12 (omega arith) (omega arith) tail-calls) (λ e. omega arith) (omega arith) (omega arith)) 2 7 8 9 walk;
+    }

@@ -32,7 +32,8 @@ pub opening-sound : (before : Ranking) (g : Graph) (l : Ledger) → Simple g →
 opening-sound before g l s b = record {
   simple = s;
   bounded = b;
-  healthy = opening-healthy before g (threshold (l .limit)) s (few-links (l .limit) (link-count g) (b .within)) }
+  healthy = opening-healthy before g (threshold (l .limit)) s (few-links (l .limit) (link-count g) (b .within));
+}
 
 -- from x to y with at most n changes
 record Leads (n : ℕ) (x y : Position) : Type 0 where
@@ -46,7 +47,8 @@ nothing n x k = record {
   simple = k .simple;
   follows = follows-self x;
   healthy = λ _. k .healthy;
-  few = λ _. ([], omega arith, λ w _. refl) }
+  few = λ _. ([], omega arith, λ w _. refl);
+}
 
 leads-kept : (x : Position) (c : Call) (y : Position) → Sound x → Leads (allowed (reason x c) c) x y → Kept x c y
 leads-kept x c y k h = record {
@@ -54,8 +56,10 @@ leads-kept x c y k h = record {
   sound = λ within. record {
     simple = h .simple;
     bounded = follows-bounded x y (k .simple) (h .simple) (k .bounded) (h .follows) within;
-    healthy = subst (λ (limit : ℕ). Healthy (y .graph) (threshold limit) (y .partners)) (sym (h .follows .limit)) (h .healthy within) };
-  few = λ within. at-most-count (x .graph .size) (allowed (reason x c) c) (x .partners) (y .partners) (h .few within) }
+    healthy = subst (λ (limit : ℕ). Healthy (y .graph) (threshold limit) (y .partners)) (sym (h .follows .limit)) (h .healthy within);
+  };
+  few = λ within. at-most-count (x .graph .size) (allowed (reason x c) c) (x .partners) (y .partners) (h .few within);
+}
 
 module _ (before : Ranking) (x : Position) (k : Sound x) where
   abbrev limit : ℕ
@@ -66,45 +70,49 @@ module _ (before : Ranking) (x : Position) (k : Sound x) where
 
   link-leads : (a b : ℕ) → reason x (link a b) ≡ None → Leads 6 x (granted before x (link a b))
   link-leads a b none =
-    let (two, none′) = two-none (x .graph) a b (adding (x .graph) (x .ledger) a b) none in
-    let free = adding-none (x .graph) (x .ledger) a b none′ in
-    let g = added (x .graph) a b in
-    record {
-      simple = added-simple (x .graph) a b (k .simple) (two .apart) (two .a-below) (two .b-below);
-      follows = link-follows (x .graph) (k .simple) (x .ledger) (x .partners) (granted before x (link a b) .partners) a b two free;
-      healthy = λ within. link-healthy before (x .graph) t a b (x .partners) (k .simple) (two .apart) (two .a-below) (two .b-below)
-        (few-links limit (link-count g) within) (k .healthy);
-      few = λ within. link-six before (x .graph) t a b (x .partners) (k .simple) (two .apart) (two .a-below) (two .b-below)
-        (few-links limit (link-count g) within) (k .healthy) }
+      let (two, none′) = two-none (x .graph) a b (adding (x .graph) (x .ledger) a b) none in
+      let free = adding-none (x .graph) (x .ledger) a b none′ in
+      let g = added (x .graph) a b in
+      record {
+        simple = added-simple (x .graph) a b (k .simple) (two .apart) (two .a-below) (two .b-below);
+        follows = link-follows (x .graph) (k .simple) (x .ledger) (x .partners) (granted before x (link a b) .partners) a b two free;
+        healthy = λ within. link-healthy before (x .graph) t a b (x .partners) (k .simple) (two .apart) (two .a-below) (two .b-below)
+            (few-links limit (link-count g) within) (k .healthy);
+        few = λ within. link-six before (x .graph) t a b (x .partners) (k .simple) (two .apart) (two .a-below) (two .b-below)
+            (few-links limit (link-count g) within) (k .healthy);
+      }
 
   unlink-leads : (a b : ℕ) → reason x (unlink a b) ≡ None → Leads 12 x (granted before x (unlink a b))
   unlink-leads a b none =
-    let (two, none′) = two-none (x .graph) a b (removing (x .graph) a b) none in
-    let on = removing-none (x .graph) a b none′ in
-    let g = removed (x .graph) a b in
-    record {
-      simple = removed-simple (x .graph) a b (k .simple);
-      follows = unlink-follows (x .graph) (k .simple) (x .ledger) (x .partners) (granted before x (unlink a b) .partners) a b two on;
-      healthy = λ within. unlink-healthy before (x .graph) t a b (x .partners) (k .simple) (few-links limit (link-count g) within) (k .healthy);
-      few = λ within. unlink-twelve before (x .graph) t a b (x .partners) (k .simple) (few-links limit (link-count g) within) (k .healthy) }
+      let (two, none′) = two-none (x .graph) a b (removing (x .graph) a b) none in
+      let on = removing-none (x .graph) a b none′ in
+      let g = removed (x .graph) a b in
+      record {
+        simple = removed-simple (x .graph) a b (k .simple);
+        follows = unlink-follows (x .graph) (k .simple) (x .ledger) (x .partners) (granted before x (unlink a b) .partners) a b two on;
+        healthy = λ within. unlink-healthy before (x .graph) t a b (x .partners) (k .simple) (few-links limit (link-count g) within) (k .healthy);
+        few = λ within. unlink-twelve before (x .graph) t a b (x .partners) (k .simple) (few-links limit (link-count g) within) (k .healthy);
+      }
 
   withdraw-leads : (a : ℕ) → reason x (withdraw a) ≡ None → Leads 7 x (granted before x (withdraw a))
   withdraw-leads a none =
-    let (below, _) = load-none (x .graph) a None none in
-    let g = isolated (x .graph) a in
-    record {
-      simple = isolated-simple (x .graph) a (k .simple);
-      follows = withdraw-follows (x .graph) (k .simple) (x .ledger) (x .partners) (granted before x (withdraw a) .partners) a below;
-      healthy = λ within. withdraw-healthy before (x .graph) t a (x .partners) (k .simple) (few-links limit (link-count g) within) (k .healthy);
-      few = λ _. withdraw-seven before t g (isolated-simple (x .graph) a (k .simple)) a (x .partners) (x .partners a) }
+      let (below, _) = load-none (x .graph) a None none in
+      let g = isolated (x .graph) a in
+      record {
+        simple = isolated-simple (x .graph) a (k .simple);
+        follows = withdraw-follows (x .graph) (k .simple) (x .ledger) (x .partners) (granted before x (withdraw a) .partners) a below;
+        healthy = λ within. withdraw-healthy before (x .graph) t a (x .partners) (k .simple) (few-links limit (link-count g) within) (k .healthy);
+        few = λ _. withdraw-seven before t g (isolated-simple (x .graph) a (k .simple)) a (x .partners) (x .partners a);
+      }
 
   depart-leads : (a : ℕ) → a < x .graph .size → Leads 2 x (granted before x (depart a))
   depart-leads a below = record {
     simple = isolated-two-simple (x .graph) a (x .partners a) (k .simple);
     follows = depart-follows (x .graph) (k .simple) (x .ledger) (x .partners) (granted before x (depart a) .partners) a below (x .partners a)
-      (λ b e. partner-below (x .graph) (x .partners) (k .healthy .matching) (k .simple) a b e);
+        (λ b e. partner-below (x .graph) (x .partners) (k .healthy .matching) (k .simple) a b e);
     healthy = λ _. depart-healthy (x .graph) t a (x .partners) (k .simple) (k .healthy);
-    few = λ _. depart-two a (x .partners) (x .partners a) }
+    few = λ _. depart-two a (x .partners) (x .partners a);
+  }
 
   granted-leads : (c : Call) → reason x c ≡ None → Leads (most c) x (granted before x c)
   granted-leads (link a b) none = link-leads a b none
@@ -117,7 +125,7 @@ module _ (before : Ranking) (x : Position) (k : Sound x) where
 
   pub call-kept : (c : Call) → Kept x c (after before x c)
   call-kept c = leads-kept x c (after before x c) k
-    (by-reason (λ o y. Leads (allowed o c) x y) (reason x c) x (granted before x c) (λ _ _. nothing 0 x k) (granted-leads c))
+      (by-reason (λ o y. Leads (allowed o c) x y) (reason x c) x (granted before x c) (λ _ _. nothing 0 x k) (granted-leads c))
 
 pub refused-unchanged : (before : Ranking) (x : Position) (c : Call) (r : Reason) → reason x c ≡ Some r → after before x c ≡ x
 refused-unchanged before x c r e = cc

@@ -22,22 +22,22 @@ at-partner-is test (Some x) h = (x, refl, h)
 
 -- were all those partners heavy, the degrees would add up to more than the square of t
 pub all-heavy : (g : Graph) → Simple g → (t : ℕ) → 2 * link-count g ≤ t * t → (p : Partners) → Matching g p →
-  (a : ℕ) → t < degree g a →
-  ((x : ℕ) → g .linked a x ≡ true → (y : ℕ) × (p x ≡ Some y) × (t < degree g y)) → ⊥
+    (a : ℕ) → t < degree g a →
+    ((x : ℕ) → g .linked a x ≡ true → (y : ℕ) × (p x ≡ Some y) × (t < degree g y)) → ⊥
 all-heavy g s t few p m a over heavy =
-  let shake = handshake g s in
-  let partners : ℕ → Bool = λ y. at-partner (g .linked a) (p y) in
-  let many : degree g a ≤ count (g .size) partners = count-into (λ x y. p x ≡ Some y) (g .size) (g .size) (g .linked a) partners
+    let shake = handshake g s in
+    let partners : ℕ → Bool = λ y. at-partner (g .linked a) (p y) in
+    let many : degree g a ≤ count (g .size) partners = count-into (λ x y. p x ≡ Some y) (g .size) (g .size) (g .linked a) partners
     (λ x l e.
-      let (y, k, d) = heavy x e in
-      let back = m .returned x y k in
-      (y, partner-below g p m s x y k, rw back e, k))
+    let (y, k, d) = heavy x e in
+    let back = m .returned x y k in
+    (y, partner-below g p m s x y k, rw back e, k))
     (partner-single g p m) in
-  let sum : count (g .size) partners * suc t ≤ total (g .size) (degree g) = total-at-least (g .size) (suc t) partners (degree g)
+    let sum : count (g .size) partners * suc t ≤ total (g .size) (degree g) = total-at-least (g .size) (suc t) partners (degree g)
     (λ y l e.
-      let (x, k, i) = at-partner-is (g .linked a) (p y) e in
-      let (z, j, d) = heavy x i in
-      let back = m .returned y x k in
-      let same : z ≡ y = cc in rw (← same) d) in
-  let past : suc t ≤ count (g .size) partners = omega arith in
-  omega (arith, mul-le-mul-right (suc t) past)
+    let (x, k, i) = at-partner-is (g .linked a) (p y) e in
+    let (z, j, d) = heavy x i in
+    let back = m .returned y x k in
+    let same : z ≡ y = cc in rw (← same) d) in
+    let past : suc t ≤ count (g .size) partners = omega arith in
+    omega (arith, mul-le-mul-right (suc t) past)

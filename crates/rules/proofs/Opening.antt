@@ -20,13 +20,14 @@ up-to-outside zero l u o = (omega arith, o)
 up-to-outside (suc n) l u o = let (h, k) = up-to-outside n (n ∷ l) u o in let i = k .0 in (omega arith, k .1)
 
 pub opening-healthy : (before : Ranking) (g : Graph) (t : ℕ) → Simple g → 2 * link-count g ≤ t * t →
-  Healthy g t (repair before t g (up-to (g .size) []) (λ _. None))
+    Healthy g t (repair before t g (up-to (g .size) []) (λ _. None))
 opening-healthy before g t s few =
-  let l = up-to (g .size) [] in
-  let past : (u v : ℕ) → Outside l u → g .linked u v ≡ true → ⊥ = λ u v o e. omega (arith, s .below u v e, up-to-outside (g .size) [] u o .0) in
-  repair-healthy before g s t few l (λ _. None) (record {
-    matching = record { returned = λ u v e. absurd (free-taken None v refl e); linked = λ u v e. absurd (free-taken None v refl e) };
-    maximal = λ u v i j _ _ e. past u v i e;
-    no-free-walk = λ u v w e i j _ on _ _ _ _ _. absurd (past u v i on);
-    no-walk = λ u v w e i j _ on _ _ _. absurd (past u v i on);
-    light = λ u i _. let none = count-none (g .size) (g .linked u) (λ v _. elim (cases-bool (g .linked u v)) [ inl on ↦ absurd (past u v i on) | inr off ↦ off ]) in omega arith })
+    let l = up-to (g .size) [] in
+    let past : (u v : ℕ) → Outside l u → g .linked u v ≡ true → ⊥ = λ u v o e. omega (arith, s .below u v e, up-to-outside (g .size) [] u o .0) in
+    repair-healthy before g s t few l (λ _. None) (record {
+      matching = record { returned = λ u v e. absurd (free-taken None v refl e); linked = λ u v e. absurd (free-taken None v refl e) };
+      maximal = λ u v i j _ _ e. past u v i e;
+      no-free-walk = λ u v w e i j _ on _ _ _ _ _. absurd (past u v i on);
+      no-walk = λ u v w e i j _ on _ _ _. absurd (past u v i on);
+      light = λ u i _. let none = count-none (g .size) (g .linked u) (λ v _. elim (cases-bool (g .linked u v)) [ inl on ↦ absurd (past u v i on) | inr off ↦ off ]) in omega arith;
+    })

@@ -39,41 +39,48 @@ fewer-done g t D E p h k = record {
   matching = k .matching;
   maximal = k .maximal;
   no-walk = λ u v w e i j. k .no-walk u v w e (h u i) (h e j);
-  light = λ u i. k .light u (h u i) }
+  light = λ u i. k .light u (h u i);
+}
 
 -- a load that has a partner is done
 pub taken-more : (g : Graph) (t : ℕ) (D : ℕ → Type 0) (p : Partners) (a b : ℕ) → AugmentPhase g t (but a D) p → p a ≡ Some b → AugmentPhase g t D p
 taken-more g t D p a b k e =
-  let apart : (u : ℕ) → p u ≡ None → u ≡ a → ⊥ = λ u n i. free-taken (p u) b n (cc) in
-  record {
-    matching = k .matching;
-    maximal = k .maximal;
-    no-walk = λ u v w z d₁ d₂ n₁ l₁ m l₂ n₂. k .no-walk u v w z (apart u n₁, d₁) (apart z n₂, d₂) n₁ l₁ m l₂ n₂;
-    light = λ u d n. k .light u (apart u n, d) n }
+    let apart : (u : ℕ) → p u ≡ None → u ≡ a → ⊥ = λ u n i. free-taken (p u) b n (cc) in
+    record {
+      matching = k .matching;
+      maximal = k .maximal;
+      no-walk = λ u v w z d₁ d₂ n₁ l₁ m l₂ n₂. k .no-walk u v w z (apart u n₁, d₁) (apart z n₂, d₂) n₁ l₁ m l₂ n₂;
+      light = λ u d n. k .light u (apart u n, d) n;
+    }
 
 -- so is a light load from which no walk leads to another free load
 pub light-more : (g : Graph) → Simple g → (t : ℕ) (D : ℕ → Type 0) (p : Partners) (a : ℕ) → AugmentPhase g t (but a D) p →
-  NoWalkFrom g p a → degree g a ≤ t → AugmentPhase g t D p
+    NoWalkFrom g p a → degree g a ≤ t → AugmentPhase g t D p
 light-more g s t D p a k none small = record {
   matching = k .matching;
   maximal = k .maximal;
-  no-walk = λ u v w e d₁ d₂ n₁ l₁ m l₂ n₂. elim (cases-eq u a)
-    [ inl i ↦ none v w e (rw i at l₁) m l₂ n₂ ∙ sym i
-    | inr i ↦ elim (cases-eq e a)
-      [ inl j ↦ j ∙ sym (none w v u (cc (s .symmetric w e)) (k .matching .returned v w m) (cc (s .symmetric u v)) n₁)
-      | inr j ↦ k .no-walk u v w e (i, d₁) (j, d₂) n₁ l₁ m l₂ n₂ ] ];
-  light = λ u d n. elim (cases-eq u a) [ inl i ↦ rw i small | inr i ↦ k .light u (i, d) n ] }
+  no-walk = λ u v w e d₁ d₂ n₁ l₁ m l₂ n₂. elim (cases-eq u a) [
+    | inl i ↦ none v w e (rw i at l₁) m l₂ n₂ ∙ sym i
+    | inr i ↦ elim (cases-eq e a) [
+      | inl j ↦ j ∙ sym (none w v u (cc (s .symmetric w e)) (k .matching .returned v w m) (cc (s .symmetric u v)) n₁)
+      | inr j ↦ k .no-walk u v w e (i, d₁) (j, d₂) n₁ l₁ m l₂ n₂
+    ]
+  ];
+  light = λ u d n. elim (cases-eq u a) [ inl i ↦ rw i small | inr i ↦ k .light u (i, d) n ];
+}
 
 -- Other partners, of which each new pair has an end that was free: since no two free loads are linked, no walk goes over it.
 pub changed-phase : (g : Graph) (t : ℕ) (D E : ℕ → Type 0) (p q : Partners) → AugmentPhase g t E p → Matching g q → Maximal g q →
-  ((u : ℕ) → D u → q u ≡ None → E u × (p u ≡ None)) →
-  ((v w : ℕ) → q v ≡ Some w → (p v ≡ Some w) ⊎ ((p v ≡ None) ⊎ (p w ≡ None))) → AugmentPhase g t D q
+    ((u : ℕ) → D u → q u ≡ None → E u × (p u ≡ None)) →
+    ((v w : ℕ) → q v ≡ Some w → (p v ≡ Some w) ⊎ ((p v ≡ None) ⊎ (p w ≡ None))) → AugmentPhase g t D q
 changed-phase g t D E p q k matching maximal was-free pair = record {
   matching = matching;
   maximal = maximal;
   no-walk = λ u v w e d₁ d₂ n₁ l₁ m l₂ n₂.
-    let (i, o₁) = was-free u d₁ n₁ in let (j, o₂) = was-free e d₂ n₂ in
-    elim (pair v w m)
-    [ inl old ↦ k .no-walk u v w e i j o₁ l₁ old l₂ o₂
-    | inr new ↦ elim new [ inl free-v ↦ absurd (k .maximal u v o₁ free-v l₁) | inr free-w ↦ absurd (k .maximal w e free-w o₂ l₂) ] ];
-  light = λ u d n. let (i, o) = was-free u d n in k .light u i o }
+      let (i, o₁) = was-free u d₁ n₁ in let (j, o₂) = was-free e d₂ n₂ in
+      elim (pair v w m) [
+        | inl old ↦ k .no-walk u v w e i j o₁ l₁ old l₂ o₂
+        | inr new ↦ elim new [ inl free-v ↦ absurd (k .maximal u v o₁ free-v l₁) | inr free-w ↦ absurd (k .maximal w e free-w o₂ l₂) ]
+      ];
+  light = λ u d n. let (i, o) = was-free u d n in k .light u i o;
+}

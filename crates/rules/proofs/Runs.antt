@@ -13,7 +13,7 @@ use Rattle.rules.proofs.Ledgers.{follows-self, follows-on}
 
 sound-two-thirds : (x : Position) → Sound x → TwoThirds x
 sound-two-thirds x k q m =
-  two-thirds (x .graph) (k .simple) (x .partners) q (k .healthy .matching) (k .healthy .no-path-of-one) (k .healthy .no-path-of-three) m
+    two-thirds (x .graph) (k .simple) (x .partners) q (k .healthy .matching) (k .healthy .no-path-of-one) (k .healthy .no-path-of-three) m
 
 -- sound, with room within the limit, and following the start
 record Reached (start x : Position) : Type 0 where
@@ -28,20 +28,23 @@ reached : (before : Ranking) (g : Graph) (l : Ledger) → Proper g l → (x : Po
 reached before g l k x none = record {
   sound = opening-sound before g l (k .simple) (k .bounded);
   room-within = k .room-within;
-  follows = follows-self (opened before g l) }
+  follows = follows-self (opened before g l);
+}
 reached before g l k y (more x c run) =
-  let r = reached before g l k x run in
-  let kept = call-kept before x (r .sound) c in
-  record {
-    sound = kept .sound (call-within before (opened before g l) x r c);
-    room-within = omega (arith, kept .follows .room, kept .follows .limit, r .room-within);
-    follows = follows-on (opened before g l) x (after before x c) (r .follows) (kept .follows) }
+    let r = reached before g l k x run in
+    let kept = call-kept before x (r .sound) c in
+    record {
+      sound = kept .sound (call-within before (opened before g l) x r c);
+      room-within = omega (arith, kept .follows .room, kept .follows .limit, r .room-within);
+      follows = follows-on (opened before g l) x (after before x c) (r .follows) (kept .follows);
+    }
 
 pub law-of-runs : (before : Ranking) (g : Graph) (l : Ledger) → Proper g l → (x : Position) → Run before (opened before g l) x → Moment before (opened before g l) x
 law-of-runs before g l k x run =
-  let r = reached before g l k x run in
-  record {
-    sound = r .sound;
-    two-thirds = sound-two-thirds x (r .sound);
-    follows = r .follows;
-    few = λ c. call-kept before x (r .sound) c .few (call-within before (opened before g l) x r c) }
+    let r = reached before g l k x run in
+    record {
+      sound = r .sound;
+      two-thirds = sound-two-thirds x (r .sound);
+      follows = r .follows;
+      few = λ c. call-kept before x (r .sound) c .few (call-within before (opened before g l) x r c);
+    }

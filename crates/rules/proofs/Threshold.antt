@@ -14,10 +14,11 @@ square (suc n) = let h : 1 ≤ suc n = omega arith in omega (arith, mul-le-mul-r
 
 root-least : (limit tries t : ℕ) → 2 * limit ≤ t + tries → ((k : ℕ) → k < t → k * k < 2 * limit) → Least limit (root-from tries t (2 * limit))
 root-least limit zero t enough below = record { enough = omega (arith, square t); least = below }
-root-least limit (suc tries) t enough below = elim (cases-bool (leb (2 * limit) (t * t)))
-  [ inl e ↦ rw e (record { enough = leb-true (2 * limit) (t * t) e; least = below })
+root-least limit (suc tries) t enough below = elim (cases-bool (leb (2 * limit) (t * t))) [
+  | inl e ↦ rw e (record { enough = leb-true (2 * limit) (t * t) e; least = below })
   | inr e ↦ rw e (root-least limit tries (t + 1) (omega arith) (λ k l. elim (cases-eq k t)
-      [ inl same ↦ rw same (leb-false (2 * limit) (t * t) e) | inr other ↦ below k (omega arith) ])) ]
+      [ inl same ↦ rw same (leb-false (2 * limit) (t * t) e) | inr other ↦ below k (omega arith) ]))
+]
 
 pub threshold-least : (limit : ℕ) → Least limit (threshold limit)
 threshold-least limit = root-least limit (2 * limit) 0 (omega arith) (λ k l. absurd (omega arith))

@@ -31,30 +31,35 @@ pub data Pair (p : Partners) (a b v w : ℕ) : Type 0 where
 
 pub paired-some : (a b : ℕ) (p : Partners) → (a ≡ b → ⊥) → (v w : ℕ) → paired a b p v ≡ Some w → Pair p a b v w
 paired-some a b p apart v w e =
-  let left = paired-left a b p in
-  let right = paired-right a b p apart in
-  elim (cases-eq v a) [ inl i ↦ forth i (cc) | inr i ↦
-  elim (cases-eq v b) [ inl j ↦ back j (cc) | inr j ↦ old i j (sym (paired-other a b p v i j) ∙ e) ] ]
+    let left = paired-left a b p in
+    let right = paired-right a b p apart in
+    elim (cases-eq v a) [
+      | inl i ↦ forth i (cc)
+      | inr i ↦
+          elim (cases-eq v b) [ inl j ↦ back j (cc) | inr j ↦ old i j (sym (paired-other a b p v i j) ∙ e) ]
+    ]
 
 pub paired-free : (a b : ℕ) (p : Partners) → (a ≡ b → ⊥) → (u : ℕ) → paired a b p u ≡ None → (u ≡ a → ⊥) × (u ≡ b → ⊥) × (p u ≡ None)
 paired-free a b p apart u e =
-  let not-a : u ≡ a → ⊥ = λ i. free-taken (paired a b p u) b e (cc (paired-left a b p)) in
-  let not-b : u ≡ b → ⊥ = λ i. free-taken (paired a b p u) a e (cc (paired-right a b p apart)) in
-  (not-a, not-b, sym (paired-other a b p u not-a not-b) ∙ e)
+    let not-a : u ≡ a → ⊥ = λ i. free-taken (paired a b p u) b e (cc (paired-left a b p)) in
+    let not-b : u ≡ b → ⊥ = λ i. free-taken (paired a b p u) a e (cc (paired-right a b p apart)) in
+    (not-a, not-b, sym (paired-other a b p u not-a not-b) ∙ e)
 
 pub paired-matching : (g : Graph) → Simple g → (p : Partners) → Matching g p → (a b : ℕ) → p a ≡ None → p b ≡ None → g .linked a b ≡ true →
-  Matching g (paired a b p)
+    Matching g (paired a b p)
 paired-matching g s p m a b free-a free-b link =
-  let apart = linked-apart g s a b link in
-  record {
-    returned = λ v w e. elim (paired-some a b p apart v w e)
-      [ forth i j ↦ cc (paired-right a b p apart)
-      | back i j ↦ cc (paired-left a b p)
-      | old i j o ↦
-          let home = m .returned v w o in
-          paired-other a b p w (λ h. free-apart p a w v free-a home (sym h)) (λ h. free-apart p b w v free-b home (sym h)) ∙ home ];
-    linked = λ v w e. elim (paired-some a b p apart v w e)
-      [ forth i j ↦ cc | back i j ↦ cc (s .symmetric a b) | old i j o ↦ m .linked v w o ] }
+    let apart = linked-apart g s a b link in
+    record {
+      returned = λ v w e. elim (paired-some a b p apart v w e) [
+        | forth i j ↦ cc (paired-right a b p apart)
+        | back i j ↦ cc (paired-left a b p)
+        | old i j o ↦
+            let home = m .returned v w o in
+            paired-other a b p w (λ h. free-apart p a w v free-a home (sym h)) (λ h. free-apart p b w v free-b home (sym h)) ∙ home
+      ];
+      linked = λ v w e. elim (paired-some a b p apart v w e)
+          [ forth i j ↦ cc | back i j ↦ cc (s .symmetric a b) | old i j o ↦ m .linked v w o ];
+    }
 
 -- ---- two loads become free
 
@@ -66,8 +71,11 @@ freed-other a b p u not-a not-b = grind (arith, tells)
 
 -- a load that is free now is one of the two, or was free
 pub freed-free : (a b : ℕ) (p : Partners) (u : ℕ) → freed a (freed b p) u ≡ None → (u ≡ a) ⊎ ((u ≡ b) ⊎ (p u ≡ None))
-freed-free a b p u e = elim (cases-eq u a) [ inl i ↦ inl i | inr i ↦
-  elim (cases-eq u b) [ inl j ↦ inr (inl j) | inr j ↦ inr (inr (sym (freed-other a b p u i j) ∙ e)) ] ]
+freed-free a b p u e = elim (cases-eq u a) [
+  | inl i ↦ inl i
+  | inr i ↦
+      elim (cases-eq u b) [ inl j ↦ inr (inl j) | inr j ↦ inr (inr (sym (freed-other a b p u i j) ∙ e)) ]
+]
 
 -- the two were partners: the pair of v and w is another
 pub record OtherPair (a b : ℕ) (p : Partners) (v w : ℕ) : Type 0 where
@@ -80,19 +88,20 @@ pub record OtherPair (a b : ℕ) (p : Partners) (v w : ℕ) : Type 0 where
 
 pub freed-some : (g : Graph) (p : Partners) → Matching g p → (a b : ℕ) → p a ≡ Some b → (v w : ℕ) → freed a (freed b p) v ≡ Some w → OtherPair a b p v w
 freed-some g p m a b pair v w e =
-  let turned = m .returned a b pair in
-  let i : v ≡ a → ⊥ = λ h. free-taken (freed a (freed b p) v) w (freed-two a b p v (inl h)) e in
-  let j : v ≡ b → ⊥ = λ h. free-taken (freed a (freed b p) v) w (freed-two a b p v (inr h)) e in
-  let was : p v ≡ Some w = sym (freed-other a b p v i j) ∙ e in
-  let home = m .returned v w was in
-  let i′ : w ≡ a → ⊥ = λ h. j (cc) in
-  let j′ : w ≡ b → ⊥ = λ h. i (cc) in
-  record { v-not-a = i; v-not-b = j; w-not-a = i′; w-not-b = j′; was = was; home = freed-other a b p w i′ j′ ∙ home }
+    let turned = m .returned a b pair in
+    let i : v ≡ a → ⊥ = λ h. free-taken (freed a (freed b p) v) w (freed-two a b p v (inl h)) e in
+    let j : v ≡ b → ⊥ = λ h. free-taken (freed a (freed b p) v) w (freed-two a b p v (inr h)) e in
+    let was : p v ≡ Some w = sym (freed-other a b p v i j) ∙ e in
+    let home = m .returned v w was in
+    let i′ : w ≡ a → ⊥ = λ h. j (cc) in
+    let j′ : w ≡ b → ⊥ = λ h. i (cc) in
+    record { v-not-a = i; v-not-b = j; w-not-a = i′; w-not-b = j′; was = was; home = freed-other a b p w i′ j′ ∙ home }
 
 pub freed-matching : (g : Graph) (p : Partners) → Matching g p → (a b : ℕ) → p a ≡ Some b → Matching g (freed a (freed b p))
 freed-matching g p m a b pair = record {
   returned = λ v w e. freed-some g p m a b pair v w e .home;
-  linked = λ v w e. m .linked v w (freed-some g p m a b pair v w e .was) }
+  linked = λ v w e. m .linked v w (freed-some g p m a b pair v w e .was);
+}
 
 -- ---- the changes of augmenting and displacing, as freeing and pairing
 

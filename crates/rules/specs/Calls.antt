@@ -72,7 +72,8 @@ released g l a = record {
   limit = l .limit;
   barred = l .barred;
   spare = λ x. l .spare x + cond (eqb a x) (degree g a) (cond (g .linked a x) 1 0);
-  room = l .room + degree g a }
+  room = l .room + degree g a;
+}
 
 abbrev pub in-order : ℕ → ℕ → List ℕ
 in-order a b = cond (ltb a b) (a ∷ b ∷ []) (b ∷ a ∷ [])
@@ -107,15 +108,16 @@ repaired before g l s p = record { graph = g; ledger = l; partners = repair befo
 -- the position after a call that is granted
 abbrev pub granted : Ranking → Position → Call → Position
 granted before x (link a b) =
-  repaired before (added (x .graph) a b) (lowered (x .ledger) a b) (in-order a b) (x .partners)
+    repaired before (added (x .graph) a b) (lowered (x .ledger) a b) (in-order a b) (x .partners)
 granted before x (unlink a b) =
-  repaired before (removed (x .graph) a b) (raised (x .ledger) a b) (in-order a b) (parted a b (x .partners) (x .partners a))
+    repaired before (removed (x .graph) a b) (raised (x .ledger) a b) (in-order a b) (parted a b (x .partners) (x .partners a))
 granted before x (withdraw a) =
-  repaired before (isolated (x .graph) a) (released (x .graph) (x .ledger) a) (the-one (x .partners a)) (parted-from a (x .partners) (x .partners a))
+    repaired before (isolated (x .graph) a) (released (x .graph) (x .ledger) a) (the-one (x .partners a)) (parted-from a (x .partners) (x .partners a))
 granted before x (depart a) = record {
   graph = isolated-two (x .graph) a (x .partners a);
   ledger = released-two (x .graph) (x .ledger) a (x .partners a);
-  partners = parted-from a (x .partners) (x .partners a) }
+  partners = parted-from a (x .partners) (x .partners a);
+}
 granted before x (ask-partner a) = x
 granted before x (ask-free-links a) = x
 granted before x ask-pairs = x

@@ -51,7 +51,7 @@ closed-improved t g p a (Some x) = closed-exchanged g p a x (p x)
 
 abbrev pub closed-improve : ℕ → Graph → ℕ → Partners → Partners
 closed-improve t g a p =
-  cond (is-free p a) (closed-improved t g p a (first (by-number a) (g .size) (λ x. g .linked a x && any-below (g .size) (ends-anywhere g p (p x))))) p
+    cond (is-free p a) (closed-improved t g p a (first (by-number a) (g .size) (λ x. g .linked a x && any-below (g .size) (ends-anywhere g p (p x))))) p
 
 abbrev pub wedge : Position
 wedge = played (link 1 2 ∷ link 0 1 ∷ []) (fresh 3 3)

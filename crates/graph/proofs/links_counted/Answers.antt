@@ -5,4 +5,5 @@ pub returns : need.returns
 returns c = λ g s. record {
   adding = λ a b. link-count-added g a b s;
   removing = λ a b. link-count-removed g a b s;
-  isolating = λ a. link-count-isolated g a s }
+  isolating = λ a. link-count-isolated g a s;
+}
