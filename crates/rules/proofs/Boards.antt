@@ -11,7 +11,7 @@ use Rattle.graph.specs.Matching.{Partners, Matching, FreeWalk}
 use Rattle.graph.proofs.Changes.{added-simple, removed-simple}
 use Rattle.graph.proofs.Counts.{link-count-none}
 use Rattle.graph.proofs.Paths.{free-taken, of-three}
-use Rattle.rules.specs.Boards.{Row, Six, Star, Refusals, by-number, fresh, fresh-ledger, played, row, row-calls, six, six-calls, Row-augmenting}
+use Rattle.rules.specs.Boards.{Row, Six, Star, Ranked, Refusals, by-number, fresh, fresh-ledger, played, row, row-calls, six, six-calls, Row-augmenting}
 use Rattle.rules.specs.Calls.{Position, Call, after}
 use Rattle.rules.specs.Laws.{Proper, Run, none, more}
 use Rattle.rules.specs.Mends.{InTurn, Closed, OnlyDisplaced, Unhealthy, six-graph, six-in-turn, triangle-closed, tail, tail-calls, tail-graph, tail-displaced}
@@ -37,6 +37,9 @@ six-played = record { granted = refl; pairs = refl; parts = refl; pairs-then = r
 
 pub star-played : Star
 star-played = record { granted = refl; free = refl; links = refl; links-once-more = refl; pairs = refl }
+
+pub ranked-played : Ranked
+ranked-played = refl
 
 pub refusals-told : Refusals
 refusals-told = record {

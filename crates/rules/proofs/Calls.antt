@@ -1,5 +1,5 @@
 -- Every call keeps a position sound, and changes few partners.
-use mathlib.Core.Path.{_≡_, refl, sym, subst}
+use mathlib.Core.Path.{_≡_, refl, sym, ap, subst}
 use mathlib.Core.List.{[]}
 use Prim.Native.Nat.{ℕ, _*_, _≤_, _<_}
 use native.Mathlib.Omega.{arith}
@@ -10,9 +10,9 @@ use Rattle.graph.proofs.Changes.{added-simple, removed-simple, isolated-simple}
 use Rattle.graph.proofs.Partners.{partner-below}
 use Rattle.links.specs.Books.{Ledger, Bounded, adding, removing}
 use Rattle.links.specs.Refusals.{Reason}
-use Rattle.rules.specs.Calls.{Position, Call, link, unlink, withdraw, depart, ask-partner, ask-free-links, ask-pairs, reason, granted, after, opened}
+use Rattle.rules.specs.Calls.{Position, Call, link, unlink, withdraw, depart, ask-partner, ask-free-links, ask-pairs, reason, granted, unless, after, opened}
 use Rattle.rules.specs.Health.{Healthy, Sound, Follows}
-use Rattle.rules.specs.Laws.{most, allowed, Kept}
+use Rattle.rules.specs.Laws.{most, allowed, Within, Kept}
 use Rattle.rules.specs.Repair.{Ranking}
 use Rattle.rules.specs.Threshold.{threshold}
 use Rattle.rules.proofs.CallChanges.{link-six, unlink-twelve, withdraw-seven, depart-two}
@@ -50,15 +50,14 @@ nothing n x k = record {
   few = λ _. ([], omega arith, λ w _. refl);
 }
 
-leads-kept : (x : Position) (c : Call) (y : Position) → Sound x → Leads (allowed (reason x c) c) x y → Kept x c y
-leads-kept x c y k h = record {
-  follows = h .follows;
-  sound = λ within. record {
+leads-kept : (x : Position) (c : Call) (y : Position) → Sound x → Leads (allowed (reason x c) c) x y → link-count (y .graph) ≤ x .ledger .limit → Kept x c y
+leads-kept x c y k h within = record {
+  sound = record {
     simple = h .simple;
     bounded = follows-bounded x y (k .simple) (h .simple) (k .bounded) (h .follows) within;
     healthy = subst (λ (limit : ℕ). Healthy (y .graph) (threshold limit) (y .partners)) (sym (h .follows .limit)) (h .healthy within);
   };
-  few = λ within. at-most-count (x .graph .size) (allowed (reason x c) c) (x .partners) (y .partners) (h .few within);
+  few = at-most-count (x .graph .size) (allowed (reason x c) c) (x .partners) (y .partners) (h .few within);
 }
 
 module _ (before : Ranking) (x : Position) (k : Sound x) where
@@ -123,9 +122,14 @@ module _ (before : Ranking) (x : Position) (k : Sound x) where
   granted-leads (ask-free-links a) none = nothing 0 x k
   granted-leads ask-pairs none = nothing 0 x k
 
-  pub call-kept : (c : Call) → Kept x c (after before x c)
-  call-kept c = leads-kept x c (after before x c) k
-      (by-reason (λ o y. Leads (allowed o c) x y) (reason x c) x (granted before x c) (λ _ _. nothing 0 x k) (granted-leads c))
+  call-leads : (c : Call) → Leads (allowed (reason x c) c) x (after before x c)
+  call-leads c = by-reason (λ o y. Leads (allowed o c) x y) (reason x c) x (granted before x c) (λ _ _. nothing 0 x k) (granted-leads c)
+
+  pub call-follows : (c : Call) → Follows x (after before x c)
+  call-follows c = call-leads c .follows
+
+  pub call-kept : (c : Call) → Within before x c → Kept x c (after before x c)
+  call-kept c = leads-kept x c (after before x c) k (call-leads c)
 
 pub refused-unchanged : (before : Ranking) (x : Position) (c : Call) (r : Reason) → reason x c ≡ Some r → after before x c ≡ x
-refused-unchanged before x c r e = cc
+refused-unchanged before x c r e = ap (λ o. unless o x (granted before x c)) e

@@ -162,15 +162,15 @@ module _ (g : Graph) (s : Simple g) (t : ℕ) (D : ℕ → Type 0) (p : Partners
 
   module _ (none : NoWalkFrom g p a) where
     -- y is linked to no other load that is free
-    y-alone : (v : ℕ) → (v ≡ a → ⊥) → p v ≡ None → g .linked y v ≡ true → ⊥
-    y-alone v not-a n l = not-a (none x y v link-x pair-x l n)
+    y-unlinked : (v : ℕ) → (v ≡ a → ⊥) → p v ≡ None → g .linked y v ≡ true → ⊥
+    y-unlinked v not-a n l = not-a (none x y v link-x pair-x l n)
 
     taken-maximal : Maximal g taken
     taken-maximal u v e f l =
         let (u≢a, h) = taken-free u e in let (v≢a, h′) = taken-free v f in
         elim h [
-          | inl i ↦ elim h′ [ inl j ↦ linked-apart g s u v l (i ∙ sym j) | inr n ↦ y-alone v v≢a n (rw i at l) ]
-          | inr m ↦ elim h′ [ inl j ↦ y-alone u u≢a m (cc (s .symmetric u v)) | inr n ↦ k .maximal u v m n l ]
+          | inl i ↦ elim h′ [ inl j ↦ linked-apart g s u v l (i ∙ sym j) | inr n ↦ y-unlinked v v≢a n (rw i at l) ]
+          | inr m ↦ elim h′ [ inl j ↦ y-unlinked u u≢a m (cc (s .symmetric u v)) | inr n ↦ k .maximal u v m n l ]
         ]
 
     displaced-phase : AugmentPhase g t (but y D) taken

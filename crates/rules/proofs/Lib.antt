@@ -16,3 +16,4 @@ pub mod Ledgers
 pub mod Calls
 pub mod Runs
 pub mod Boards
+pub mod OneByOne

@@ -6,12 +6,12 @@ use Rattle.graph.proofs.TwoThirds.{two-thirds}
 use Rattle.links.specs.Books.{Ledger}
 use Rattle.rules.specs.Calls.{Position, Call, after, opened}
 use Rattle.rules.specs.Health.{Sound, TwoThirds, Follows}
-use Rattle.rules.specs.Laws.{Proper, Run, none, more, Moment}
+use Rattle.rules.specs.Laws.{Within, Proper, Run, none, more, Moment}
 use Rattle.rules.specs.Repair.{Ranking}
-use Rattle.rules.proofs.Calls.{opening-sound, call-kept}
+use Rattle.rules.proofs.Calls.{opening-sound, call-follows, call-kept}
 use Rattle.rules.proofs.Ledgers.{follows-self, follows-on}
 
-sound-two-thirds : (x : Position) → Sound x → TwoThirds x
+pub sound-two-thirds : (x : Position) → Sound x → TwoThirds x
 sound-two-thirds x k q m =
     two-thirds (x .graph) (k .simple) (x .partners) q (k .healthy .matching) (k .healthy .no-path-of-one) (k .healthy .no-path-of-three) m
 
@@ -21,8 +21,8 @@ record Reached (start x : Position) : Type 0 where
   room-within : x .ledger .room + link-count (x .graph) ≤ x .ledger .limit
   follows : Follows start x
 
-call-within : (before : Ranking) (start x : Position) → Reached start x → (c : Call) → link-count (after before x c .graph) ≤ x .ledger .limit
-call-within before start x r c = let sum = call-kept before x (r .sound) c .follows .room in omega (arith, r .room-within)
+call-within : (before : Ranking) (start x : Position) → Reached start x → (c : Call) → Within before x c
+call-within before start x r c = let sum = call-follows before x (r .sound) c .room in omega (arith, r .room-within)
 
 reached : (before : Ranking) (g : Graph) (l : Ledger) → Proper g l → (x : Position) → Run before (opened before g l) x → Reached (opened before g l) x
 reached before g l k x none = record {
@@ -31,12 +31,13 @@ reached before g l k x none = record {
   follows = follows-self (opened before g l);
 }
 reached before g l k y (more x c run) =
+    let start = opened before g l in
     let r = reached before g l k x run in
-    let kept = call-kept before x (r .sound) c in
+    let follows = call-follows before x (r .sound) c in
     record {
-      sound = kept .sound (call-within before (opened before g l) x r c);
-      room-within = omega (arith, kept .follows .room, kept .follows .limit, r .room-within);
-      follows = follows-on (opened before g l) x (after before x c) (r .follows) (kept .follows);
+      sound = call-kept before x (r .sound) c (call-within before start x r c) .sound;
+      room-within = omega (arith, follows .room, follows .limit, r .room-within);
+      follows = follows-on start x (after before x c) (r .follows) follows;
     }
 
 pub law-of-runs : (before : Ranking) (g : Graph) (l : Ledger) → Proper g l → (x : Position) → Run before (opened before g l) x → Moment before (opened before g l) x
@@ -46,5 +47,5 @@ law-of-runs before g l k x run =
       sound = r .sound;
       two-thirds = sound-two-thirds x (r .sound);
       follows = r .follows;
-      few = λ c. call-kept before x (r .sound) c .few (call-within before (opened before g l) x r c);
+      few = λ c. call-kept before x (r .sound) c (call-within before (opened before g l) x r c) .few;
     }

@@ -2,8 +2,8 @@
 use mathlib.Core.Path.{_≡_}
 use mathlib.Core.Bool.{Bool, false, cond}
 use mathlib.Core.List.{List, [], _∷_, _++_}
-use Prim.Native.Nat.{ℕ, zero, suc, _+_, _-_, _≤_}
-use lib.Dec.{ltb}
+use Prim.Native.Nat.{ℕ, zero, suc, _+_, _-_, _%_, _≤_}
+use lib.Dec.{eqb, ltb}
 use Rattle.std.specs.declared.option.Option.{Option}
 use Rattle.std.specs.declared.option.Option.the-variants.{Some, None}
 use Rattle.graph.specs.Graph.{edgeless, degree}
@@ -35,9 +35,12 @@ fresh n limit = opened by-number (edgeless n) (fresh-ledger n limit)
 abbrev pub Fresh-proper : Type 0
 Fresh-proper = (n limit : ℕ) → n ≤ 256 → limit ≤ 32640 → Proper (edgeless n) (fresh-ledger n limit)
 
+abbrev pub played-by : Ranking → List Call → Position → Position
+played-by before [] x = x
+played-by before (c ∷ rest) x = played-by before rest (after before x c)
+
 abbrev pub played : List Call → Position → Position
-played [] x = x
-played (c ∷ rest) x = played rest (after by-number x c)
+played = played-by by-number
 
 abbrev pub answers : List Call → Position → List (Option Reason)
 answers [] x = []
@@ -128,6 +131,19 @@ pub record Star : Type 0 where
   pub links : degree (star .graph) 0 ≡ 4
   pub links-once-more : reason star (link 0 5) ≡ None
   pub pairs : partners-in star-heavy ≡ Some 1 ∷ Some 0 ∷ None ∷ Some 4 ∷ Some 3 ∷ Some 6 ∷ Some 5 ∷ []
+
+-- ---- rankings of their own
+
+-- even loads would rather have the lower number, odd loads the higher
+abbrev pub by-parity : Ranking
+by-parity a x y = cond (eqb (a % 2) 0) (ltb x y) (ltb y x)
+
+-- the path from 0 goes over 2 and 3, and ends at the first of 4 and 5 for the load 3
+abbrev pub ranked : Position
+ranked = played-by by-parity (link 2 3 ∷ link 3 4 ∷ link 3 5 ∷ link 0 2 ∷ []) (fresh 6 8)
+
+abbrev pub Ranked : Type 0
+Ranked = partners-in ranked ≡ Some 2 ∷ None ∷ Some 0 ∷ Some 5 ∷ None ∷ Some 3 ∷ []
 
 -- ---- refusals
 

@@ -31,15 +31,26 @@ allowed (Some r) c = 0
 abbrev pub Opening-sound : Type 0
 Opening-sound = (before : Ranking) (g : Graph) (l : Ledger) → Simple g → Bounded g l → Sound (opened before g l)
 
--- what holds after a call from x to y
-pub record Kept (x : Position) (c : Call) (y : Position) : Type 0 where
-  pub follows : Follows x y
-  pub sound : link-count (y .graph) ≤ x .ledger .limit → Sound y
-  pub few : link-count (y .graph) ≤ x .ledger .limit → changes x y ≤ allowed (reason x c) c
+-- size, limit and barred pairs never change, and spares and room follow each link
+abbrev pub Calls-follow : Type 0
+Calls-follow = (before : Ranking) (x : Position) → Sound x → (c : Call) → Follows x (after before x c)
 
--- every call keeps a position sound, where the book keeps its links within the limit
+-- the book has kept its links within the limit
+abbrev pub Within : Ranking → Position → Call → Type 0
+Within before x c = link-count (after before x c .graph) ≤ x .ledger .limit
+
+-- y is sound after a call on x, and few partners are others
+pub record Kept (x : Position) (c : Call) (y : Position) : Type 0 where
+  pub sound : Sound y
+  pub few : changes x y ≤ allowed (reason x c) c
+
+-- every call keeps a position sound and changes few partners
 abbrev pub Calls-keep : Type 0
-Calls-keep = (before : Ranking) (x : Position) → Sound x → (c : Call) → Kept x c (after before x c)
+Calls-keep = (before : Ranking) (x : Position) → Sound x → (c : Call) → Within before x c → Kept x c (after before x c)
+
+-- a sound position has at least two thirds of the pairs of every matching
+abbrev pub Sound-two-thirds : Type 0
+Sound-two-thirds = (x : Position) → Sound x → TwoThirds x
 
 -- a refused call leaves everything as it was
 abbrev pub Refused-unchanged : Type 0
@@ -47,7 +58,7 @@ Refused-unchanged = (before : Ranking) (x : Position) (c : Call) (r : Reason) �
 
 -- ---- runs
 
--- a book whose room, beside the links that it has, is within its limit
+-- a book whose links and room together are within its limit; a bounded ledger alone may promise more room than that
 pub record Proper (g : Graph) (l : Ledger) : Type 0 where
   pub simple : Simple g
   pub bounded : Bounded g l
@@ -65,7 +76,7 @@ pub record Moment (before : Ranking) (start x : Position) : Type 0 where
   pub follows : Follows start x
   pub few : (c : Call) → changes x (after before x c) ≤ allowed (reason x c) c
 
--- from an opening on any proper book, by any calls: each moment is sound, has two thirds of the pairs of every matching,
--- has the links and spares that the calls gave it, and the next call changes few partners
+-- from an opening on any proper book, by any calls: each moment is sound and has two thirds of the pairs of every matching,
+-- its spares and room have followed the links, and the next call changes few partners
 abbrev pub Law-of-runs : Type 0
 Law-of-runs = (before : Ranking) (g : Graph) (l : Ledger) → Proper g l → (x : Position) → Run before (opened before g l) x → Moment before (opened before g l) x

@@ -2,6 +2,7 @@ pub mod Threshold
 pub mod First
 pub mod Repair
 pub mod Calls
+pub mod OneByOne
 pub mod Health
 pub mod Theorems
 pub mod Laws

@@ -50,7 +50,7 @@ module _ (g : Graph) where
   abbrev pub begins-path : Partners → ℕ → ℕ → Bool
   begins-path p a x = g .linked a x && any-below (g .size) (ends-path p a (p x))
 
-  -- x is linked to a, and its partner has at most t links
+  -- there is a partner, and it has at most t links
   abbrev pub light-partner : ℕ → Option ℕ → Bool
   light-partner t None = false
   light-partner t (Some y) = leb (degree g y) t
@@ -78,7 +78,7 @@ module _ (before : Ranking) (g : Graph) where
   augment a p = augmented-from p a (path-start p a)
 
 module _ (before : Ranking) (t : ℕ) (g : Graph) where
-  -- a takes x from its partner y, and y is augmented
+  -- a takes x from its partner y, and then a path that begins at y is taken
   abbrev pub displaced : Partners → ℕ → ℕ → Option ℕ → Partners
   displaced p a x None = p
   displaced p a x (Some y) = augment before g y (freed y (paired a x p))

@@ -1,8 +1,9 @@
 // The rules by which a board keeps its matching, and the theorems on them. The functions here do nothing: the contract of
 // each is a theorem, which the check therefore asks to be proved.
-ghost use Rattle.rules.specs.Boards.{Thresholds, Fresh-proper, Row, Row-augmenting, Six, Star, Refusals};
-ghost use Rattle.rules.specs.Laws.{Opening-sound, Calls-keep, Refused-unchanged, Law-of-runs};
+ghost use Rattle.rules.specs.Boards.{Thresholds, Fresh-proper, Row, Row-augmenting, Six, Star, Ranked, Refusals};
+ghost use Rattle.rules.specs.Laws.{Opening-sound, Calls-follow, Calls-keep, Refused-unchanged, Sound-two-thirds, Law-of-runs};
 ghost use Rattle.rules.specs.Mends.{InTurn, Closed, OnlyDisplaced};
+ghost use Rattle.rules.specs.OneByOne.{Links-one-by-one};
 ghost use Rattle.rules.specs.Theorems.{Threshold-least, First-leads};
 
 // The threshold is the least whole number whose square is at least twice the limit.
@@ -21,14 +22,29 @@ pub fn opening_is_sound()
     ensures { λ _. ⌜ Opening-sound ⌝ }
 {}
 
-// Every call keeps a position sound, and changes few partners; spares and room follow the links.
+// Size, limit and barred pairs never change, and spares and room follow each link.
+pub fn calls_follow()
+    ensures { λ _. ⌜ Calls-follow ⌝ }
+{}
+
+// Every call keeps a position sound and changes few partners, where the book has kept its links within the limit.
 pub fn calls_keep()
     ensures { λ _. ⌜ Calls-keep ⌝ }
+{}
+
+// A withdrawal is the removal of the links one by one, each of which raises the spares.
+pub fn links_one_by_one()
+    ensures { λ _. ⌜ Links-one-by-one ⌝ }
 {}
 
 // A refused call leaves everything as it was.
 pub fn refused_unchanged()
     ensures { λ _. ⌜ Refused-unchanged ⌝ }
+{}
+
+// A sound position has at least two thirds of the pairs of every matching.
+pub fn sound_two_thirds()
+    ensures { λ _. ⌜ Sound-two-thirds ⌝ }
 {}
 
 // The law of runs: after an opening and any calls, granted or refused, the position is sound, has at least two thirds of
@@ -50,6 +66,11 @@ pub fn fresh_is_proper()
 // Four loads in a row, and a departure.
 pub fn row_of_four()
     ensures { λ _. ⌜ Row ⌝ }
+{}
+
+// Each load goes by its own ranking.
+pub fn own_rankings()
+    ensures { λ _. ⌜ Ranked ⌝ }
 {}
 
 // The row as an augmenting path, where only its middle loads are partners.
