@@ -22,7 +22,7 @@ use Rattle.tables.specs.Choices.{FirstFree, Matched}
 
 module _ (before : ℕ → ℕ → Bool) (test : ℕ → Bool) where
   -- what does not pass the test changes nothing
-  first-cut : (n m : ℕ) → n ≤ m → ((y : ℕ) → n ≤ y → y < m → test y ≡ false) → first before m test ≡ first before n test
+  pub first-cut : (n m : ℕ) → n ≤ m → ((y : ℕ) → n ≤ y → y < m → test y ≡ false) → first before m test ≡ first before n test
   first-cut n zero h none = let e : 0 ≡ n = omega arith in ap (λ (k : ℕ). first before k test) e
   first-cut n (suc m) h none = let again = first-cut n m in elim (cases-lt m n) [
     | inl l ↦ let e : suc m ≡ n = omega arith in ap (λ (k : ℕ). first before k test) e
@@ -35,17 +35,18 @@ module _ (before : ℕ → ℕ → Bool) (test : ℕ → Bool) where
       sym (ap (λ (k : ℕ). first before k test) (add-one x) ∙ cond-true (test x) _ _ (next .hit) ∙ ap (λ (o : Option ℕ). Some (earlier before o x)) so-far)
 
   -- the best so far is the best of all where none is left
-  first-all : (from n : ℕ) → ((y : ℕ) → from ≤ y → test y ≡ false) → ((y : ℕ) → n ≤ y → test y ≡ false) → first before from test ≡ first before n test
+  pub first-all : (from n : ℕ) → ((y : ℕ) → from ≤ y → test y ≡ false) → ((y : ℕ) → n ≤ y → test y ≡ false) → first before from test ≡ first before n test
   first-all from n none past = elim (cases-lt from n)
       [ inl h ↦ sym (first-cut from n (omega arith) (λ y k _. none y k)) | inr h ↦ first-cut n from h (λ y k _. past y k) ]
 
+-- no number past the size is linked
+pub past-size : (g : Graph) → Simple g → (a y : ℕ) → g .size ≤ y → g .linked a y ≡ false
+past-size g simple a y h = elim (cases-bool (g .linked a y)) [ inl e ↦ absurd (omega (arith, simple .below y a (simple .symmetric y a ∙ e))) | inr e ↦ e ]
+
 pub first-is : (before : Ranking) (t : Tables) (a from : ℕ) → ((y : ℕ) → from ≤ y → free-linked t a y ≡ false) → FirstFree before a t (first (before a) from (free-linked t a))
 first-is before t a from none g simple k =
-    first-all (before a) (free-linked t a) from (g .size) none (λ y h. k .tracks .sets a y ∙ and-left (g .linked a y) _ (outside y h))
+    first-all (before a) (free-linked t a) from (g .size) none (λ y h. k .tracks .sets a y ∙ and-left (g .linked a y) _ (past-size g simple a y h))
     ∙ ap (first (before a) (g .size)) (fun-ext (k .tracks .sets a))
-  where
-    outside : (y : ℕ) → g .size ≤ y → g .linked a y ≡ false
-    outside y h = elim (cases-bool (g .linked a y)) [ inl e ↦ absurd (omega (arith, simple .below y a (simple .symmetric y a ∙ e))) | inr e ↦ e ]
 
 -- ---- a load matched with the first
 

@@ -9,7 +9,7 @@ use links::Links;
 use ranking::Ranking;
 
 // Which of the best so far and x comes first in a's ranking.
-fn earlier<R: Ranking>(ranking: &R, a: usize, best: Option<usize>, x: usize) -> usize
+pub fn earlier<R: Ranking>(ranking: &R, a: usize, best: Option<usize>, x: usize) -> usize
     ensures { λ r. ⌜ r ≡ earlier (R·Ranking .before (now (ranking .entry)) a) best x ⌝ }
 {
     match best {

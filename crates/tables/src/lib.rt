@@ -7,7 +7,7 @@ ghost use Rattle.graph.specs.Pairs.{is-free};
 ghost use Rattle.tables.specs.Views.{record-of, partners-of, links-of, free-count-of, free-linked, New};
 
 mod changes;
-mod choices;
+pub mod choices;
 mod load_set;
 
 // What is kept of a load: its partner, how many links it has, and how many of them lead to free loads.
