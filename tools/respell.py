@@ -4,8 +4,8 @@
 usage: tools/respell.py      at the top of the repository, once, after the kit's own port
 
 A row of the table is an old name, a tab and the new name: words in snake case, types in camel case. What turns:
-  .antt   the code, and code spans of comments; the first name behind c., w., goal. and the like stays, since it names a
-          step or a goal that Rattle makes
+  .antt   the code, and code spans of comments; in the answers of a function the first name behind c., w. and the like
+          stays, since it names a step that Rattle makes
   .rt     clauses and imports, that is every word but those of comments and strings; code spans of comments
   .edit   its lines, as the file that they change
   .md     code spans
@@ -27,10 +27,10 @@ def table():
         return dict(line.rstrip("\n").split("\t") for line in f)
 
 
-def code(text, rows, antt):
+def code(text, rows, answers):
     def turn(m):
         new = rows.get(m[0])
-        if new is None or (antt and MADE.search(text[max(0, m.start() - 6) : m.start()])):
+        if new is None or (answers and MADE.search(text[max(0, m.start() - 6) : m.start()])):
             return m[0]
         return new
 
@@ -44,11 +44,11 @@ def spans(text, rows):
 def line_of(line, rows, kind):
     if kind == "md":
         return spans(line, rows)
-    mark = "--" if kind == "antt" else "//"
+    mark = "--" if kind in ("antt", "answers") else "//"
     at = re.search(rf"(?:^|(?<=\s)){mark}", line)
     head, tail = (line[: at.start()], line[at.start() :]) if at else (line, "")
-    if kind == "antt":
-        return code(head, rows, True) + spans(tail, rows)
+    if kind in ("antt", "answers"):
+        return code(head, rows, kind == "answers") + spans(tail, rows)
     out, last = [], 0
     for m in STRING.finditer(head):
         out += [code(head[last : m.start()], rows, False), m[0]]
@@ -59,6 +59,8 @@ def line_of(line, rows, kind):
 def kind_of(path, text):
     if path.endswith(".edit"):
         return "antt" if re.search(r"^file: .*\.antt$", text, re.M) else "rt"
+    if os.path.basename(path) in ("Answers.antt", "Invariants.antt"):
+        return "answers"
     return path.rsplit(".", 1)[1]
 
 

@@ -127,7 +127,7 @@ link_count_more n p q a b l m ne c =
     ⊎_elim
     (λ e. absurd (ne e))
     (λ o. ⊎_elim
-    (λ k. higher_more n p q b a k m c.off-back c.on-back (λ x y yx f. c.same x y (not_pair a b x y (λ u v. omega arith) (λ u v. f (sym v) (sym u)))))
+    (λ k. higher_more n p q b a k m c.off_back c.on_back (λ x y yx f. c.same x y (not_pair a b x y (λ u v. omega arith) (λ u v. f (sym v) (sym u)))))
     (λ k. higher_more n p q a b k l c.off c.on (λ x y yx f. c.same x y (not_pair a b x y (λ u v. f (sym u) (sym v)) (λ u v. omega arith))))
     o)
     (cases_order a b)
@@ -139,7 +139,7 @@ degree_more n p q a b l m ne c x =
     (count_more n (p a) (q a) b m c.off c.on (λ k _ u. c.same a k (not_pair a b a k (λ _ v. u (sym v)) (λ _ v. ne (sym v)))))))
     (λ d. ⊎_elim
     (λ e. rw (or_right (eqb a x) (eqb b x) (eq-eqb b x e)) (subst (λ (w : ℕ). count n (q w) ≡ count n (p w) + 1) e
-    (count_more n (p b) (q b) a l c.off-back c.on-back (λ k _ u. c.same b k (not_pair a b b k (λ v _. ne v) (λ v _. u (sym v)))))))
+    (count_more n (p b) (q b) a l c.off_back c.on_back (λ k _ u. c.same b k (not_pair a b b k (λ v _. ne v) (λ v _. u (sym v)))))))
     (λ f. rw (or_from (eqb a x) (eqb b x) (ne_eqb a x d) (ne_eqb b x f))
     (count_ext n (q x) (p x) (λ k _. c.same x k (not_pair a b x k (λ v _. d v) (λ _ v. f v))) ∙ sym (add-zero (count n (p x)))))
     (cases_eq b x))

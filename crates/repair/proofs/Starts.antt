@@ -12,7 +12,7 @@ use Rattle.rules.proofs.Improve.{taken_path}
 
 module _ (before : Ranking) (g : Graph) (s : Simple g) (p : Partners) (a x : ℕ) (start : path-start before g p a ≡ Some x) where
   pub start_paired : p x ≡ None → ⊥
-  start_paired none = let (y, z, w) = taken_path before g s p a x start in free_taken (p x) y none w.pair-x
+  start_paired none = let (y, z, w) = taken_path before g s p a x start in free_taken (p x) y none w.pair_x
 
   pub start_ends : (y : ℕ) → p x ≡ Some y → first (before y) g.size (ends-path g p a (Some y)) ≡ None → ⊥
   start_ends y pair none =

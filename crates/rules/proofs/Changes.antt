@@ -116,6 +116,6 @@ module _ (before : Ranking) (g : Graph) where
       | inl n ↦ elim (cases_option (path-start before g p a)) [
         | inl o ↦ let low = le-ltb t (degree g a) (k.light a tt n) in cc
         | inr (x, o) ↦ let (y, z, w) = taken_path before g s p a x o in
-            absurd (w.apart (k.no_walk a x y z tt tt n w.link-x w.pair-x w.link-z w.free-z))
+            absurd (w.apart (k.no_walk a x y z tt tt n w.link_x w.pair_x w.link_z w.free_z))
       ]
     ]

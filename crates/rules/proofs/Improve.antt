@@ -184,7 +184,7 @@ module _ (before : Ranking) (g : Graph) (s : Simple g) (t : ℕ) where
       AugmentPhase g t D (exchanged before g p a x (p x))
   exchanged_more D p a x k n o =
       let (y, z, w) = taken_path before g s p a x o in
-      subst (AugmentPhase g t D) (sym w.result) (augmented_more g s t D p a x y k n w.link-x w.pair-x z w.link-z w.free-z w.apart)
+      subst (AugmentPhase g t D) (sym w.result) (augmented_more g s t D p a x y k n w.link_x w.pair_x z w.link_z w.free_z w.apart)
 
   augment_more : (D : ℕ → Type 0) (p : Partners) (a : ℕ) → AugmentPhase g t (but a D) p → p a ≡ None → degree g a ≤ t →
       AugmentPhase g t D (augment before g a p)
