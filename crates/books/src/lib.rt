@@ -1,2 +1,3 @@
 // Books of links in memory that the caller lends.
+#![tactic(auto)]
 pub mod bit_matrix;

@@ -1,4 +1,5 @@
 // Examples of what the crates below answer, proved safe and then run.
+#![tactic(auto)]
 #[cfg(test)]
 mod claims;
 #[cfg(test)]

@@ -1,4 +1,5 @@
 // Examples of what the commands and the play of a stream answer, proved safe and then run.
+#![tactic(auto)]
 #[cfg(test)]
 mod bytes;
 #[cfg(test)]

@@ -1,4 +1,5 @@
 // Shows each holder of links, the audit, the rankings and a board at work, and says what each call answers.
+#![tactic(auto)]
 use audit::{Verdict, audit};
 use books::bit_matrix::BitMatrix;
 use filter::ClassFilter;

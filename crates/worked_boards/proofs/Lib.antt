@@ -2,4 +2,4 @@ mod Refusals
 mod Played
 mod Positions
 mod Brought
-mod Hidden
+mod HiddenLinks

@@ -7,7 +7,7 @@ use Rattle.filter.specs.Classes.{filtered, filtered_ledger}
 use Rattle.rules.specs.Boards.{fresh_ledger}
 use Rattle.rules.specs.Calls.{link, unlink, ask_free_links, reason, free_links_of}
 use Rattle.worked_boards.proofs.Brought.{add_answers, behind}
-use Rattle.worked_boards.proofs.Hidden.{hides, brought, allowed, start, after_linking, after_unlinking, played}
+use Rattle.worked_boards.proofs.HiddenLinks.{hides, brought, allowed, start, after_linking, after_unlinking, played}
 use Rattle.worked_boards.proofs.Positions.{at_opening, call_answers, at_call, told_at, read_at}
 use Rattle.worked_boards.proofs.Refusals.{not_refused, refused_with}
 use Rattle.worked_boards.proofs.behind_a_filter.Goals as goal
