@@ -1,5 +1,6 @@
 // Single bits of a word. A place is taken modulo 64, as a row of words has it: load b is bit b mod 64 of its word.
 #![tactic(auto)]
+
 ghost use Rattle.std.specs.Prelude.{◌≡◌, ℕ, ◌%◌, ◌≤◌, not, ◌&&◌, ◌||◌, ◌==◌};
 ghost use Rattle.graph.specs.Graph.{count};
 ghost use Rattle.bits.specs.Bit.{bit, NextBit};

@@ -1,5 +1,6 @@
 // What can be asked of links, what a book of links can change, and the refusals.
 #![tactic(auto)]
+
 ghost use Rattle.std.specs.Prelude.{◌≡◌, ℕ, None};
 ghost use Rattle.graph.specs.Graph.{Graph, Simple, degree, link_count, Next};
 ghost use Rattle.links.specs.Books.{Ledger, Bounded, Allows, Adds, Removes, unless_two, adding, removing};

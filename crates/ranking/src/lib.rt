@@ -1,5 +1,6 @@
 // Which of two loads a load would rather be paired with.
 #![tactic(auto)]
+
 ghost use Rattle.std.specs.Prelude.{◌≡◌, ℕ, Bool};
 ghost use Rattle.ranking.specs.Order.{StrictOrder, lower};
 

@@ -1,5 +1,6 @@
 // Memory in rows of equal length: in each row its count, then that many loads in rising order, then zeros.
 #![tactic(auto)]
+
 ghost use Rattle.std.specs.Prelude.{◌≡◌, ◌+◌, ◌*◌, ◌≤◌, length};
 ghost use Rattle.row.specs.Row.{entries, place, Insertable, row_with, Removable, row_without};
 ghost use Rattle.row.specs.Memory.{loads_of_row, RowChanged, BothChanged};

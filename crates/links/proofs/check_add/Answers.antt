@@ -5,9 +5,9 @@ use Rattle.links.specs.declared.Layer.TheVariants.{Book}
 use Rattle.links.proofs.Reasons.{two_refused, refused_by}
 use Rattle.links.proofs.check_add.Goals as goal
 
-pub returns-in-err-check-two : goal.returns-in-err-check-two
-returns-in-err-check-two g c made l allows =
+pub returns-in_err-check_two : goal.returns-in_err-check_two
+returns-in_err-check_two g c made l allows =
     let size = (g.L.Links.graph c.args.links.now).size in
-    refused_by _ c.in-err-check-two.field-0.0 c.from-residual.result _ c.from-residual.ensures.1
+    refused_by _ c.in_err-check_two.field-0.0 c.from_residual.result _ c.from_residual.ensures.1
     (two_refused Book size c.args.a c.args.b _ _
-    (subst (λ (n : ℕ). unless_two Book n c.args.a c.args.b None ≡ Some (told c.in-err-check-two.field-0.0)) (c.size.ensures.value made) c.in-err-check-two.ensures))
+    (subst (λ (n : ℕ). unless_two Book n c.args.a c.args.b None ≡ Some (told c.in_err-check_two.field-0.0)) (c.size.ensures.value made) c.in_err-check_two.ensures))

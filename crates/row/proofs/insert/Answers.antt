@@ -15,7 +15,7 @@ returns c room =
     let low : p ≤ get_or row 0 0 = omega (arith, c.position-k.ensures.within) in
     let long : length part - 1 ≡ get_or row 0 0 - p =
     simp (length-take-le (1 + get_or row 0 0 + 1 - (1 + p)) (drop (1 + p) row) (simp length-drop (omega arith))) (omega arith) in
-    row_inserted row (1 + p) (1 + get_or row 0 0 + 1 - (1 + p)) p (get_or row 0 0 - p) c.args.b c.rotate-right.new.self
+    row_inserted row (1 + p) (1 + get_or row 0 0 + 1 - (1 + p)) p (get_or row 0 0 - p) c.args.b c.rotate_right.new.self
     (omega arith) (omega arith) (omega arith) room
     (c.position-k.ensures.first ∙ ap (λ (n : ℕ). place (take n (drop 1 row)) c.args.b) count)
-    (c.rotate-right.ensures.after ∙ ap (λ (m : ℕ). drop m part ++ take m part) long)
+    (c.rotate_right.ensures.after ∙ ap (λ (m : ℕ). drop m part ++ take m part) long)
