@@ -14,7 +14,7 @@ cleared_bit on false true e = sym e
 cleared_bit on false false e = refl
 
 pub returns-then-on : goal.returns-then-on
-returns-then-on c j = c.with-bit.ensures j ∙ set_bit c.args.on _ (eqb (c.args.b % 64) j) c.if-on.true
+returns-then-on c j = c.with_bit.ensures j ∙ set_bit c.args.on _ (eqb (c.args.b % 64) j) c.if-on.true
 
 pub returns-else-on : goal.returns-else-on
-returns-else-on c j = c.without-bit.ensures j ∙ cleared_bit c.args.on _ (eqb (c.args.b % 64) j) c.if-on.false
+returns-else-on c j = c.without_bit.ensures j ∙ cleared_bit c.args.on _ (eqb (c.args.b % 64) j) c.if-on.false

@@ -14,5 +14,5 @@ pub returns : goal.returns
 returns g c =
     record {
       bound = omega arith;
-      value = λ made. c.loop-b.invariant.2 made ∙ sym (count_cut c.args.end c.loop-b.from _ c.loop-b.invariant.1 (c.in-default.ensures.value made));
+      value = λ made. c.loop-b.invariant.2 made ∙ sym (count_cut c.args.end c.loop-b.from _ c.loop-b.invariant.1 (c.in_default.ensures.value made));
     }

@@ -7,13 +7,13 @@ use Rattle.links.proofs.Reasons.{kept_same}
 use Rattle.filter.proofs.Through.{not_two, are_two, adds_through}
 use Rattle.filter.proofs.ClassFilterBook.add.Goals as goal
 
-pub returns-in-err-check-two : goal.returns-in-err-check-two
-returns-in-err-check-two g c =
+pub returns-in_err-check_two : goal.returns-in_err-check_two
+returns-in_err-check_two g c =
     record {
-      kept = kept_same c.from-residual.result c.args.self.now;
+      kept = kept_same c.from_residual.result c.args.self.now;
       answers = λ made.
-          not_two c.size.result (g.B.Links.graph c.args.self.now.below).size c.args.a c.args.b _ c.in-err-check-two.field-0.0 c.from-residual.result _
-          (c.size.ensures.value made) c.in-err-check-two.ensures c.from-residual.ensures.1;
+          not_two c.size.result (g.B.Links.graph c.args.self.now.below).size c.args.a c.args.b _ c.in_err-check_two.field-0.0 c.from_residual.result _
+          (c.size.ensures.value made) c.in_err-check_two.ensures c.from_residual.ensures.1;
     }
 
 pub returns-then-hidden : goal.returns-then-hidden
@@ -22,8 +22,8 @@ returns-then-hidden g c =
       kept = refl;
       answers = λ made.
           adding_hidden (hidden c.args.self.now.classes c.args.self.now.bars) (g.B.Links.graph c.args.self.now.below) c.args.a c.args.b
-          (are_two c.size.result _ c.args.a c.args.b (c.size.ensures.value made) c.in-ok-check-two.ensures.0) (sym c.if-hidden.ensures) (g.B.Book.ledger c.args.self.now.below)
-          ∙ ap (λ (e : Refused). Some (told e)) (sym c.by-book.ensures);
+          (are_two c.size.result _ c.args.a c.args.b (c.size.ensures.value made) c.in_ok-check_two.ensures.0) (sym c.if-hidden.ensures) (g.B.Book.ledger c.args.self.now.below)
+          ∙ ap (λ (e : Refused). Some (told e)) (sym c.by_book.ensures);
     }
 
 pub returns : goal.returns

@@ -7,16 +7,16 @@ use Rattle.link_list.proofs.LinkList.check.Goals as goal
 
 pub returns-in-Some : goal.returns-in-Some
 returns-in-Some c =
-    checking_is c.args.size c.args.entries.now _ _ c.first-unordered.ensures c.first-out-of-bounds.ensures
+    checking_is c.args.size c.args.entries.now _ _ c.first_unordered.ensures c.first_out_of_bounds.ensures
     (omega arith) (omega arith)
     ∙ ap bad_entry (sym c.in-Some.ensures)
-    ∙ ap (λ (r : Refused). Some (told r)) (sym c.by-book-in-Some.ensures)
+    ∙ ap (λ (r : Refused). Some (told r)) (sym c.by_book-in-Some.ensures)
 
 pub returns-in-None : goal.returns-in-None
 returns-in-None c = (
-  checking_is c.args.size c.args.entries.now _ _ c.first-unordered.ensures c.first-out-of-bounds.ensures
+  checking_is c.args.size c.args.entries.now _ _ c.first_unordered.ensures c.first_out_of_bounds.ensures
       (omega arith) (omega arith)
       ∙ ap bad_entry (sym c.in-None.ensures),
-  sound_is c.args.size c.args.entries.now _ _ c.first-unordered.ensures c.first-out-of-bounds.ensures
+  sound_is c.args.size c.args.entries.now _ _ c.first_unordered.ensures c.first_out_of_bounds.ensures
       (omega arith) (sym c.in-None.ensures),
 )

@@ -7,8 +7,8 @@ use Rattle.link_list.proofs.LinkListLinks.degree.Goals as goal
 use Rattle.link_list.proofs.LinkListLinks.degree.Goals.{then-touches, else-touches}
 
 -- there are no more such entries than entries so far
-pub overflow-add-count : goal.overflow-add-count
-overflow-add-count c =
+pub overflow_add-count : goal.overflow_add-count
+overflow_add-count c =
     let test : ℕ → Bool = λ k. touches (entry_at c.args.self.now.entries.now k) c.args.a in
     let few : c.loop-link.count ≤ c.loop-link.link-index = omega (arith, c.loop-link.invariant, count_le c.loop-link.link-index test) in
     search rules

@@ -8,7 +8,7 @@ pub loop-link-preserved : goal.loop-link-preserved
 loop-link-preserved c =
     rw (add-one, c.lower-found.ensures)
     (next_either (joined c.args.self.now.entries.now c.loop-link.link-index c.args.a) _ c.args.from _ _
-    c.loop-link.invariant c.linked-to.ensures)
+    c.loop-link.invariant c.linked_to.ensures)
 
 pub returns : goal.returns
 returns c = λ made.

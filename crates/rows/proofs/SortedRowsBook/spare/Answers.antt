@@ -8,6 +8,6 @@ returns-then-a-self c _ = sym (cond-false _ _ _ (le-ltb _ _ c.if-a-self.true))
 
 pub returns : goal.returns
 returns c made =
-    c.saturating-sub.ensures
+    c.saturating_sub.ensures
     ∙ ap (λ (k : ℕ). c.args.self.now.row_limit - k) (ap length (c.row.ensures made.long) ∙ length_loads _ _ _ _ _ made c.args.a c.if-a-self.false)
     ∙ sym (cond-true _ _ _ (lt-ltb _ _ c.if-a-self.false))

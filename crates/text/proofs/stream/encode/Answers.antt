@@ -12,35 +12,35 @@ some_bytes : (bytes : List ℕ) → eqb (length bytes) 0 ≡ false → 0 < lengt
 some_bytes bytes some = let other = eqb-false (length bytes) 0 some in omega arith
 
 -- what the line that was just read gave
-follows : (c : In-Ok) → vec_items c.push-line.new.stream ≡ vec_items c.loop-good.stream ++ line_bytes (front 10 c.loop-good.rest.now)
-follows c = c.in-Ok.ensures.1 ∙ ap (λ line. vec_items c.loop-good.stream ++ line_bytes line) c.split-before.ensures.before
+follows : (c : In-Ok) → vec_items c.push_line.new.stream ≡ vec_items c.loop-good.stream ++ line_bytes (front 10 c.loop-good.rest.now)
+follows c = c.in-Ok.ensures.1 ∙ ap (λ line. vec_items c.loop-good.stream ++ line_bytes line) c.split_before.ensures.before
 
 answered : (c : In-Ok) → is_ok (meaning (front 10 c.loop-good.rest.now)) ≡ c.in-Ok.good
-answered c = ap (λ line. is_ok (meaning line)) (sym c.split-before.ensures.before) ∙ sym c.in-Ok.ensures.0
+answered c = ap (λ line. is_ok (meaning line)) (sym c.split_before.ensures.before) ∙ sym c.in-Ok.ensures.0
 
 pub returns-then-not-good : goal.returns-then-not-good
 returns-then-not-good c = first_bad c.loop-good.invariant (answered (goal.at.returns-then-not-good c).In-Ok ∙ c.if-not-good.true)
 
-pub returns-then-len-gt-LONGEST-STREAM : goal.returns-then-len-gt-LONGEST-STREAM
-returns-then-len-gt-LONGEST-STREAM c =
-    too_long c.loop-good.invariant _ (follows (goal.at.returns-then-len-gt-LONGEST-STREAM c).In-Ok) (omega (arith, c.push-line.new.stream.ok.0))
+pub returns-then-len-gt-LONGEST_STREAM : goal.returns-then-len-gt-LONGEST_STREAM
+returns-then-len-gt-LONGEST_STREAM c =
+    too_long c.loop-good.invariant _ (follows (goal.at.returns-then-len-gt-LONGEST_STREAM c).In-Ok) (omega (arith, c.push_line.new.stream.ok.0))
 
-pub returns-then-is-empty : goal.returns-then-is-empty
-returns-then-is-empty c =
-    let at = (goal.at.returns-then-is-empty c).In-Ok in
-    let none = sym c.split-before.ensures.rest ∙ nil_from_length _ (eqb-true _ 0 (sym c.if-is-empty.ensures)) in
-    (sofar_all c.loop-good.invariant _ (follows at) (answered at ∙ c.if-not-good.false) none, omega (arith, c.push-line.new.stream.ok.0))
+pub returns-then-is_empty : goal.returns-then-is_empty
+returns-then-is_empty c =
+    let at = (goal.at.returns-then-is_empty c).In-Ok in
+    let none = sym c.split_before.ensures.rest ∙ nil_from_length _ (eqb-true _ 0 (sym c.if-is_empty.ensures)) in
+    (sofar_all c.loop-good.invariant _ (follows at) (answered at ∙ c.if-not-good.false) none, omega (arith, c.push_line.new.stream.ok.0))
 
 pub loop-good-smaller : goal.loop-good-smaller
 loop-good-smaller c =
-    let after = c.split-before.result.1.now in
-    let some : 0 < length after = some_bytes after (sym c.if-is-empty.ensures) in
+    let after = c.split_before.result.1.now in
+    let some : 0 < length after = some_bytes after (sym c.if-is_empty.ensures) in
     let shorter : length (take (length after - 1) (drop 1 after)) < length c.loop-good.rest.now =
-    omega (arith, ap length (take_rest after 1), length-drop 1 after, ap length c.split-before.ensures.rest, length_past_le 10 c.loop-good.rest.now) in
+    omega (arith, ap length (take_rest after 1), length-drop 1 after, ap length c.split_before.ensures.rest, length_past_le 10 c.loop-good.rest.now) in
     shorter
 
 pub loop-good-preserved : goal.loop-good-preserved
 loop-good-preserved c =
     let at = (goal.at.loop-good-preserved c).In-Ok in
-    rw (take_rest c.split-before.result.1.now 1, c.split-before.ensures.rest)
-    (sofar_more c.loop-good.invariant _ (follows at) (answered at ∙ c.if-not-good.false) (omega (arith, ap length c.split-before.ensures.rest, some_bytes c.split-before.result.1.now (sym c.if-is-empty.ensures))) (omega (arith, c.push-line.new.stream.ok.0)))
+    rw (take_rest c.split_before.result.1.now 1, c.split_before.ensures.rest)
+    (sofar_more c.loop-good.invariant _ (follows at) (answered at ∙ c.if-not-good.false) (omega (arith, ap length c.split_before.ensures.rest, some_bytes c.split_before.result.1.now (sym c.if-is_empty.ensures))) (omega (arith, c.push_line.new.stream.ok.0)))

@@ -17,4 +17,4 @@ returns c =
       | then-loop-end-test+else-text-end w ↦ fronted_here _ _ _ c.loop-end.invariant w.loop-end-test.true w.if-text-end.false
       | else-loop-end-test w ↦ fronted_all _ _ _ c.loop-end.invariant w.loop-end-test.false
     ] in
-    record { before = c.split-at.ensures.front ∙ split.0; rest = c.split-at.ensures.back ∙ split.1 }
+    record { before = c.split_at.ensures.front ∙ split.0; rest = c.split_at.ensures.back ∙ split.1 }

@@ -10,24 +10,24 @@ pub returns-in-Ok : goal.returns-in-Ok
 returns-in-Ok c =
     let bounds = checked_bounds c.args.size c.args.limit (length c.args.words.now) c.in-Ok.ensures.0 in
     let fresh = fresh_from_zeros (record { size = c.args.size; limit = c.args.limit; count = 0; words = record { ref_ptr = c.args.words.ptr; ghost_name = c.args.words.name; now = after } })
-    bounds.0 bounds.1 refl (omega (arith, bounds.2, same_length)) (λ k h. zeros k (omega (arith, c.row-start-used.ensures.value))) in
+    bounds.0 bounds.1 refl (omega (arith, bounds.2, same_length)) (λ k h. zeros k (omega (arith, c.row_start-used.ensures.value))) in
     record {
       made = fresh.still_made;
       making = subst (λ (reason : Option Reason). Making reason c.args.size c.args.limit c.args.words.now (record { size = c.args.size; limit = c.args.limit; count = 0; words = record { ref_ptr = c.args.words.ref_ptr; ghost_name = c.args.words.ghost_name; now = after } })) (sym c.in-Ok.ensures.0)
-          (fresh, record { same_length = same_length; zeros = λ k h. zeros k (omega (arith, c.row-start-used.ensures.value)); beyond = λ k h. beyond k (omega (arith, c.row-start-used.ensures.value)) });
+          (fresh, record { same_length = same_length; zeros = λ k h. zeros k (omega (arith, c.row_start-used.ensures.value)); beyond = λ k h. beyond k (omega (arith, c.row_start-used.ensures.value)) });
       lender = refl;
     }
   where
     after : List ℕ
-    after = c.fill.new.self ++ post_of 0 (c.row-start-used.result - 0) c.args.words.now
+    after = c.fill.new.self ++ post_of 0 (c.row_start-used.result - 0) c.args.words.now
 
-    same_length : length (c.fill.new.self ++ post_of 0 (c.row-start-used.result - 0) c.args.words.now) ≡ length c.args.words.now
+    same_length : length (c.fill.new.self ++ post_of 0 (c.row_start-used.result - 0) c.args.words.now) ≡ length c.args.words.now
     same_length = search (rules, places)
 
-    zeros : (k : ℕ) → k < c.row-start-used.result → get_or (c.fill.new.self ++ post_of 0 (c.row-start-used.result - 0) c.args.words.now) k 0 ≡ 0
+    zeros : (k : ℕ) → k < c.row_start-used.result → get_or (c.fill.new.self ++ post_of 0 (c.row_start-used.result - 0) c.args.words.now) k 0 ≡ 0
     zeros k h = search (rules, places)
 
-    beyond : (k : ℕ) → c.row-start-used.result ≤ k → get_or (c.fill.new.self ++ post_of 0 (c.row-start-used.result - 0) c.args.words.now) k 0 ≡ get_or c.args.words.now k 0
+    beyond : (k : ℕ) → c.row_start-used.result ≤ k → get_or (c.fill.new.self ++ post_of 0 (c.row_start-used.result - 0) c.args.words.now) k 0 ≡ get_or c.args.words.now k 0
     beyond k h = search (rules, places)
 
 pub returns-in-Err : goal.returns-in-Err

@@ -5,17 +5,17 @@ use Rattle.books.specs.Matrix.{matrix_graph, matrix_made, matrix_ledger}
 use Rattle.books.proofs.Writes.{grown}
 use Rattle.books.proofs.bit_matrix.BitMatrixBook.add.Goals as goal
 
-pub returns-in-err-check-add : goal.returns-in-err-check-add
-returns-in-err-check-add c =
+pub returns-in_err-check_add : goal.returns-in_err-check_add
+returns-in_err-check_add c =
     record {
       book = record {
-        kept = kept_same c.from-residual.result c.args.self.now;
+        kept = kept_same c.from_residual.result c.args.self.now;
         answers = λ made.
-            refused_by _ c.in-err-check-add.field-0.0 c.from-residual.result _ c.from-residual.ensures.1
-            (c.in-err-check-add.ensures made (matrix_ledger c.args.self.now) (record { barred = refl; spare_a = c.spare.ensures made; spare_b = c.spare-2.ensures made; room = c.room.ensures made }));
+            refused_by _ c.in_err-check_add.field-0.0 c.from_residual.result _ c.from_residual.ensures.1
+            (c.in_err-check_add.ensures made (matrix_ledger c.args.self.now) (record { barred = refl; spare_a = c.spare.ensures made; spare_b = c.spare-2.ensures made; room = c.room.ensures made }));
       };
       lender = refl;
-      words = λ _ ok. absurd (not_granted c.from-residual.result _ c.from-residual.ensures.1 ok);
+      words = λ _ ok. absurd (not_granted c.from_residual.result _ c.from_residual.ensures.1 ok);
       beyond = λ _ _. refl;
     }
 
@@ -38,7 +38,7 @@ returns c =
   where
     none : matrix_made c.args.self.now → adding (matrix_graph c.args.self.now) (matrix_ledger c.args.self.now) c.args.a c.args.b ≡ None
     none made =
-        (c.in-ok-check-add.ensures made (matrix_ledger c.args.self.now) (record { barred = refl; spare_a = c.spare.ensures made; spare_b = c.spare-2.ensures made; room = c.room.ensures made })).0
+        (c.in_ok-check_add.ensures made (matrix_ledger c.args.self.now) (record { barred = refl; spare_a = c.spare.ensures made; spare_b = c.spare-2.ensures made; room = c.room.ensures made })).0
 
     can : matrix_made c.args.self.now → Addable (matrix_graph c.args.self.now) (matrix_ledger c.args.self.now) c.args.a c.args.b
     can made = adding_none (matrix_graph c.args.self.now) (matrix_ledger c.args.self.now) c.args.a c.args.b (none made)

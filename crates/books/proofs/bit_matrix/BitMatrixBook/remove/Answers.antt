@@ -4,15 +4,15 @@ use Rattle.books.specs.Matrix.{matrix_graph, matrix_made}
 use Rattle.books.proofs.Writes.{shrunk}
 use Rattle.books.proofs.bit_matrix.BitMatrixBook.remove.Goals as goal
 
-pub returns-in-err-check-remove : goal.returns-in-err-check-remove
-returns-in-err-check-remove c =
+pub returns-in_err-check_remove : goal.returns-in_err-check_remove
+returns-in_err-check_remove c =
     record {
       book = record {
-        kept = kept_same c.from-residual.result c.args.self.now;
-        answers = λ made. refused_by _ c.in-err-check-remove.field-0.0 c.from-residual.result _ c.from-residual.ensures.1 (c.in-err-check-remove.ensures made);
+        kept = kept_same c.from_residual.result c.args.self.now;
+        answers = λ made. refused_by _ c.in_err-check_remove.field-0.0 c.from_residual.result _ c.from_residual.ensures.1 (c.in_err-check_remove.ensures made);
       };
       lender = refl;
-      words = λ _ ok. absurd (not_granted c.from-residual.result _ c.from-residual.ensures.1 ok);
+      words = λ _ ok. absurd (not_granted c.from_residual.result _ c.from_residual.ensures.1 ok);
       beyond = λ _ _. refl;
     }
 
@@ -22,7 +22,7 @@ returns c =
       book = record {
         kept = tt;
         answers = λ made. (
-          (c.in-ok-check-remove.ensures made).0,
+          (c.in_ok-check_remove.ensures made).0,
           shrunk c.args.self.now c.put-link.new.words c.args.a c.args.b c.saturating-sub-self.result made (can made)
               c.saturating-sub-self.ensures
               (c.put-link.ensures.written made.small (can made).two.a_below (can made).two.b_below made.enough),
@@ -34,4 +34,4 @@ returns c =
     }
   where
     can : matrix_made c.args.self.now → Removable (matrix_graph c.args.self.now) c.args.a c.args.b
-    can made = removing_none (matrix_graph c.args.self.now) c.args.a c.args.b (c.in-ok-check-remove.ensures made).0
+    can made = removing_none (matrix_graph c.args.self.now) c.args.a c.args.b (c.in_ok-check_remove.ensures made).0

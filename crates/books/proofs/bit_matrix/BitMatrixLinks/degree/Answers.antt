@@ -15,8 +15,8 @@ returns-then-self-gt256 c made =
 
 pub loop-k-preserved : goal.loop-k-preserved
 loop-k-preserved c = (
-  omega (arith, c.count-bits-sum.ensures.bound),
-  ap (λ (x : ℕ). c.loop-k.sum + x) c.count-bits-sum.ensures.value
+  omega (arith, c.count_bits-sum.ensures.bound),
+  ap (λ (x : ℕ). c.loop-k.sum + x) c.count_bits-sum.ensures.value
       ∙ row_more c.args.self.now.size c.args.self.now.words.now c.args.a c.loop-k.k c.word.result c.loop-k.sum
       (c.word.ensures (omega arith) (omega arith) (omega arith)) c.loop-k.invariant.1,
 )

@@ -4,14 +4,14 @@ use Rattle.books.proofs.bit_matrix.BitMatrixLinks.next_linked.Goals as goal
 
 pub loop-k-preserved : goal.loop-k-preserved
 loop-k-preserved c = λ b l m.
-    none_more c.args.self.now.size c.args.self.now.words.now c.args.a c.args.from c.loop-k.k c.word.result c.saturating-sub.result
-    (c.word.ensures (omega arith) (omega arith) (omega arith)) c.saturating-sub.ensures
-    64 (omega arith) (λ j h _. c.in-default.ensures j h) c.loop-k.invariant b l (omega arith)
+    none_more c.args.self.now.size c.args.self.now.words.now c.args.a c.args.from c.loop-k.k c.word.result c.saturating_sub.result
+    (c.word.ensures (omega arith) (omega arith) (omega arith)) c.saturating_sub.ensures
+    64 (omega arith) (λ j h _. c.in_default.ensures j h) c.loop-k.invariant b l (omega arith)
 
 pub returns-in-Some : goal.returns-in-Some
 returns-in-Some c made =
-    first_in c.args.self.now.size c.args.self.now.words.now c.args.a c.args.from c.loop-k.k c.word.result c.saturating-sub.result
-    (c.word.ensures (omega arith) (omega arith) (omega arith)) c.saturating-sub.ensures
+    first_in c.args.self.now.size c.args.self.now.words.now c.args.a c.args.from c.loop-k.k c.word.result c.saturating_sub.result
+    (c.word.ensures (omega arith) (omega arith) (omega arith)) c.saturating_sub.ensures
     c.in-Some.j (omega arith) c.in-Some.ensures.0
     (λ b l m. made.padded c.args.a b (omega arith) l (omega arith))
     c.in-Some.ensures.1 c.loop-k.invariant

@@ -19,7 +19,7 @@ returns t c =
       appends =
           elim c.if-n-ge10.branch [
             | then-n-ge10 w ↦
-                rw (digits_more c.args.n w.if-n-ge10.true (omega arith)) (appends_more w.push-number.ensures.appends (rw w.self-is at c.push.ensures))
+                rw (digits_more c.args.n w.if-n-ge10.true (omega arith)) (appends_more w.push_number.ensures.appends (rw w.self-is at c.push.ensures))
             | else-n-ge10 w ↦ rw (digits_one c.args.n w.if-n-ge10.false) (rw w.self-is at c.push.ensures)
           ];
       short = five_digits c.args.n (omega arith);
