@@ -15,7 +15,7 @@ use Rattle.books.proofs.Cells.{linked_in, linked_past, linked_past_row, same_pla
 
 -- the book with so many links and these words
 abbrev pub rewritten : BitMatrix → ℕ → List ℕ → BitMatrix
-rewritten s next after = record { size = s.size; limit = s.limit; count = next; words = record { ref_ptr = s.words.ptr; ghost_name = s.words.name; now = after } }
+rewritten s next after = record { size = s.size; limit = s.limit; count = next; words = record { ref_ptr = s.words.ref_ptr; ghost_name = s.words.ghost_name; now = after } }
 
 module _ (on : Bool) (s : BitMatrix) (after : List ℕ) (a b : ℕ) (made : matrix_made s) (two : TwoLoads s.size a b) (w : Written on (is_link_place s.size a b) s.words.now after) where
   cells : (x y : ℕ) → y < 64 * row_words s.size → cell s.size after x y ≡ cond (is_pair a b x y) on (cell s.size s.words.now x y)

@@ -9,7 +9,7 @@ use Rattle.books.proofs.bit_matrix.BitMatrix.new.Goals as goal
 pub returns-in-Ok : goal.returns-in-Ok
 returns-in-Ok c =
     let bounds = checked_bounds c.args.size c.args.limit (length c.args.words.now) c.in-Ok.ensures.0 in
-    let fresh = fresh_from_zeros (record { size = c.args.size; limit = c.args.limit; count = 0; words = record { ref_ptr = c.args.words.ptr; ghost_name = c.args.words.name; now = after } })
+    let fresh = fresh_from_zeros (record { size = c.args.size; limit = c.args.limit; count = 0; words = record { ref_ptr = c.args.words.ref_ptr; ghost_name = c.args.words.ghost_name; now = after } })
     bounds.0 bounds.1 refl (omega (arith, bounds.2, same_length)) (λ k h. zeros k (omega (arith, c.row_start-used.ensures.value))) in
     record {
       made = fresh.still_made;
