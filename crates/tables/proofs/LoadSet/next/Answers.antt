@@ -3,7 +3,7 @@ use Rattle.tables.proofs.Members.{none_all, none_more, first_in}
 use Rattle.tables.proofs.LoadSet.next.Goals as goal
 
 pub loop-at-preserved : goal.loop-at-preserved
-loop-at-preserved c = (omega arith, none_more c.args.self.now c.args.from c.loop-at.at c.loop-at.invariant.0 c.loop-at.invariant.1 c.in-default.ensures)
+loop-at-preserved c = (omega arith, none_more c.args.self.now c.args.from c.loop-at.at c.loop-at.invariant.0 c.loop-at.invariant.1 c.in_default.ensures)
 
 pub returns-in-Some : goal.returns-in-Some
 returns-in-Some c = let found = c.in-Some.ensures in

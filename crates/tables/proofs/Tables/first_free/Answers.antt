@@ -10,4 +10,4 @@ loop-x-preserved g c =
 
 pub returns : goal.returns
 returns g c = λ graph simple agrees.
-    c.loop-x.invariant ∙ first_is (g.R.Ranking.before c.args.ranking.now) c.args.self.now c.args.a c.loop-x.from c.in-default.ensures.value graph simple agrees
+    c.loop-x.invariant ∙ first_is (g.R.Ranking.before c.args.ranking.now) c.args.self.now c.args.a c.loop-x.from c.in_default.ensures.value graph simple agrees

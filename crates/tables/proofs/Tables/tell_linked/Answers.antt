@@ -12,4 +12,4 @@ loop-x-preserved g c = λ made simple.
 
 pub returns : goal.returns
 returns g c = λ made simple.
-    steps_like (all_past ((g.L.Links.graph c.args.links.now).linked c.args.a) c.loop-x.from (c.in-default.ensures made)) (c.loop-x.invariant made simple)
+    steps_like (all_past ((g.L.Links.graph c.args.links.now).linked c.args.a) c.loop-x.from (c.in_default.ensures made)) (c.loop-x.invariant made simple)

@@ -26,14 +26,14 @@ returns c =
         kept = tt;
         answers = λ made. (
           none made,
-          grown c.args.self.now c.put-link.new.words c.args.a c.args.b c.saturating-add-self.result made (can made)
-              (omega (arith, c.saturating-add-self.ensures, made.within, made.limit_bound))
-              (c.put-link.ensures.written made.small (can made).two.a_below (can made).two.b_below made.enough),
+          grown c.args.self.now c.put_link.new.words c.args.a c.args.b c.saturating_add-self.result made (can made)
+              (omega (arith, c.saturating_add-self.ensures, made.within, made.limit_bound))
+              (c.put_link.ensures.written made.small (can made).two.a_below (can made).two.b_below made.enough),
         );
       };
       lender = refl;
-      words = λ made _. c.put-link.ensures.written made.small (can made).two.a_below (can made).two.b_below made.enough;
-      beyond = c.put-link.ensures.beyond;
+      words = λ made _. c.put_link.ensures.written made.small (can made).two.a_below (can made).two.b_below made.enough;
+      beyond = c.put_link.ensures.beyond;
     }
   where
     none : matrix_made c.args.self.now → adding (matrix_graph c.args.self.now) (matrix_ledger c.args.self.now) c.args.a c.args.b ≡ None

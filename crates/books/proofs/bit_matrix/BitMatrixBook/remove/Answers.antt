@@ -23,14 +23,14 @@ returns c =
         kept = tt;
         answers = λ made. (
           (c.in_ok-check_remove.ensures made).0,
-          shrunk c.args.self.now c.put-link.new.words c.args.a c.args.b c.saturating-sub-self.result made (can made)
-              c.saturating-sub-self.ensures
-              (c.put-link.ensures.written made.small (can made).two.a_below (can made).two.b_below made.enough),
+          shrunk c.args.self.now c.put_link.new.words c.args.a c.args.b c.saturating_sub-self.result made (can made)
+              c.saturating_sub-self.ensures
+              (c.put_link.ensures.written made.small (can made).two.a_below (can made).two.b_below made.enough),
         );
       };
       lender = refl;
-      words = λ made _. c.put-link.ensures.written made.small (can made).two.a_below (can made).two.b_below made.enough;
-      beyond = c.put-link.ensures.beyond;
+      words = λ made _. c.put_link.ensures.written made.small (can made).two.a_below (can made).two.b_below made.enough;
+      beyond = c.put_link.ensures.beyond;
     }
   where
     can : matrix_made c.args.self.now → Removable (matrix_graph c.args.self.now) c.args.a c.args.b
