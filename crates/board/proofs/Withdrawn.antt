@@ -27,8 +27,8 @@ module _ {B R : Type 0} (graph : B → Graph) (made : B → Type 0) (ledger : B 
       links_removed graph made ledger (graph s.book) stands.sound.simple (ledger s.book) (partners_of s.tables) s.book s.tables (in_step graph made ledger s stands)
       a (load_none (graph s.book) a None none).0 t.book u
 
-  abbrev as-by-rules : Option ℕ → Position
-  as-by-rules o = repaired (before s.ranking) (isolated (graph s.book) a) (released (graph s.book) (ledger s.book) a) (the_one o) (parted_from a (partners_of s.tables) o)
+  abbrev as_by_rules : Option ℕ → Position
+  as_by_rules o = repaired (before s.ranking) (isolated (graph s.book) a) (released (graph s.book) (ledger s.book) a) (the_one o) (parted_from a (partners_of s.tables) o)
 
   pub withdrawn_free : partners_of s.tables a ≡ None → RemovesLinks graph made ledger a s.book s.tables t.book t.tables →
       Leads graph made ledger (before s.ranking) s (withdraw a) (Ok tt) t
@@ -36,7 +36,7 @@ module _ {B R : Type 0} (graph : B → Graph) (made : B → Type 0) (ledger : B 
       let g = graph s.book in
       let fewer = fewer_links g stands.sound.simple a (load_none g a None none).0 in
       granted_leads graph made ledger before s (withdraw a) stands none t (isolated g a) (released g (ledger s.book) a) (partners_of s.tables)
-      (links_left t.tables removes) (omega (arith, fewer, stands.sound.bounded.within)) (ap as-by-rules free)
+      (links_left t.tables removes) (omega (arith, fewer, stands.sound.bounded.within)) (ap as_by_rules free)
 
   pub withdrawn_partner : (b : ℕ) → partners_of s.tables a ≡ Some b → (u v : Tables) → RemovesLinks graph made ledger a s.book s.tables t.book u →
       OfBook (made t.book) (graph t.book) (λ h. Parting h a b u v) →
@@ -52,7 +52,7 @@ module _ {B R : Type 0} (graph : B → Graph) (made : B → Type 0) (ledger : B 
       let matching = stands.sound.healthy.matching in
       let left = links_left u removes in
       let still = left.book.still_made in
-      repaired_leads graph made ledger before s (withdraw a) stands none t h l (b ∷ []) (freed a (freed b p)) v n (ap as-by-rules pair)
+      repaired_leads graph made ledger before s (withdraw a) stands none t h l (b ∷ []) (freed a (freed b p)) v n (ap as_by_rules pair)
       (partners_parted graph made ledger h simple l p t.book u left a b (partners_two graph made ledger s stands a b pair) pair (matching.returned a b pair) v parts)
       (n-is still) (bounded still) (withdraw_fewer g stands.sound.simple a p matching (Some b) pair).matching
       (change still (subst Simple (sym left.book.graph_is) simple))

@@ -5,7 +5,7 @@ use Rattle.graph.specs.Graph.{Graph, degree}
 use Rattle.graph.specs.Matching.{Partners, Free, Matching}
 use Rattle.graph.specs.Pairs.{is_free}
 use Rattle.graph.proofs.Partners.{none_is, some_is}
-use Rattle.rules.specs.Repair.{Ranking, paired, light-partner, path-start, augmented-from, augment, displaced, displaced-from, light-start, displace, improved, improve}
+use Rattle.rules.specs.Repair.{Ranking, paired, light_partner, path_start_of, augmented_from, augment, displaced, displaced_from, light_start_of, displace, improved, improve}
 use Rattle.rules.proofs.First.{first_found}
 use Rattle.tables.specs.declared.Tables.{Tables}
 use Rattle.tables.specs.Views.{partners_of, links_of, Agrees}
@@ -17,17 +17,17 @@ module _ (before : Ranking) (n : ℕ) (g : Graph) (a : ℕ) {s : Tables} (k : Ag
   p = partners_of s
 
   module _ (many : n < links_of s a) where
-    displace_many : (o : Option ℕ) → light-start before n g p a ≡ o → displace before n g a p ≡ displaced-from before n g p a o
-    displace_many o e = cond-true (ltb n (degree g a)) _ _ (lt-ltb n (degree g a) (subst (λ (d : ℕ). n < d) (k.tracks.degrees a) many)) ∙ ap (displaced-from before n g p a) e
+    displace_many : (o : Option ℕ) → light_start_of before n g p a ≡ o → displace before n g a p ≡ displaced_from before n g p a o
+    displace_many o e = cond-true (ltb n (degree g a)) _ _ (lt-ltb n (degree g a) (subst (λ (d : ℕ). n < d) (k.tracks.degrees a) many)) ∙ ap (displaced_from before n g p a) e
 
-    module _ (x : ℕ) (start : light-start before n g p a ≡ Some x) where
+    module _ (x : ℕ) (start : light_start_of before n g p a ≡ Some x) where
       displace_at : (o : Option ℕ) → p x ≡ o → displace before n g a p ≡ displaced before n g p a x o
       displace_at o e = displace_many (Some x) start ∙ ap (displaced before n g p a x) e
 
       pub displace_pair : (y : ℕ) {r : Bool} {u t : Tables} → p x ≡ Some y → Free p a → Takes g a x y s u → Augments before g y r u t → Holds g (displace before n g a p) t
       displace_pair y {r} {u} {t} pair free-a take augments =
-          let at_x = first_found (before a) g.size (λ z. g.linked a z && light-partner g n (p z)) x start in
-          let (link, _) = and_parts (g.linked a x) (light-partner g n (p x)) at_x.passes in
+          let at_x = first_found (before a) g.size (λ z. g.linked a z && light_partner g n (p z)) x start in
+          let (link, _) = and_parts (g.linked a x) (light_partner g n (p x)) at_x.passes in
           let taken = take free-a link pair k m in
           let free-y = ap (λ (q : Partners). q y) taken.partners ∙ freed_here y (paired a x p) in
           subst (λ (q : Partners). Holds g q t) (ap (augment before g y) taken.partners ∙ sym (displace_at (Some y) pair))
@@ -36,21 +36,21 @@ module _ (before : Ranking) (n : ℕ) (g : Graph) (a : ℕ) {s : Tables} (k : Ag
   -- ---- one load of the second phase
 
   module _ (free : is_free p a ≡ true) where
-    improve_by : (o : Option ℕ) → path-start before g p a ≡ o → improve before n g a p ≡ improved before n g p a o
+    improve_by : (o : Option ℕ) → path_start_of before g p a ≡ o → improve before n g a p ≡ improved before n g p a o
     improve_by o e = cond-true (is_free p a) _ _ free ∙ ap (improved before n g p a) e
 
     pub improve_path : {r : Bool} {t : Tables} → r ≡ true → Augments before g a r s t → Holds g (improve before n g a p) t
     improve_path {r} {t} yes-path augments =
         let done = augments (none_is (p a) free) k m in
-        let (x, start) = some_is (path-start before g p a) (sym done.found ∙ yes-path) in
-        subst (λ (q : Partners). Holds g q t) (ap (augmented-from before g p a) start ∙ sym (improve_by (Some x) start)) done.holds
+        let (x, start) = some_is (path_start_of before g p a) (sym done.found ∙ yes-path) in
+        subst (λ (q : Partners). Holds g q t) (ap (augmented_from before g p a) start ∙ sym (improve_by (Some x) start)) done.holds
 
     pub improve_other : {r : Bool} {u t : Tables} → r ≡ false → Augments before g a r s u →
         (Free (partners_of u) a → Changes g (displace before n g a) u t) → Holds g (improve before n g a p) t
     improve_other {r} {u} {t} no-path augments displaces =
         let done = augments (none_is (p a) free) k m in
-        let start = not_some (path-start before g p a) (sym done.found ∙ no-path) in
-        let same : partners_of u ≡ p = done.holds.partners ∙ ap (augmented-from before g p a) start in
+        let start = not_some (path_start_of before g p a) (sym done.found ∙ no-path) in
+        let same : partners_of u ≡ p = done.holds.partners ∙ ap (augmented_from before g p a) start in
         subst (λ (q : Partners). Holds g q t) (ap (displace before n g a) same ∙ sym (improve_by None start))
         (displaces (ap (λ (q : Partners). q a) same ∙ none_is (p a) free) done.holds.agrees done.holds.matching)
       where

@@ -6,7 +6,7 @@ use Rattle.std.proofs.lemmas.Bool.Decides.{nat_tests}
 use Rattle.graph.specs.Graph.{Graph, Simple, count, First}
 use Rattle.graph.proofs.Injections.{except, count_except}
 use Rattle.rules.specs.First.{first}
-use Rattle.rules.specs.Repair.{Ranking, any_below, ends-path}
+use Rattle.rules.specs.Repair.{Ranking, any_below, ends_path}
 use Rattle.tables.specs.declared.Tables.{Tables}
 use Rattle.tables.specs.Views.{partners_of, free_count_of, free_linked, Agrees}
 use Rattle.tables.proofs.Firsts.{past_size}
@@ -38,14 +38,14 @@ any_nothing (suc n) = or_from (any_below n (λ _. false)) false (any_nothing n) 
 
 -- a load without a partner is on no path
 pub none_over : (a x : ℕ) (t : Tables) → partners_of t x ≡ None → GoesOver a x t false
-none_over a x t e g simple k = sym (ap (λ (o : Option ℕ). any_below g.size (ends-path g (partners_of t) a o)) e ∙ any_nothing g.size)
+none_over a x t e g simple k = sym (ap (λ (o : Option ℕ). any_below g.size (ends_path g (partners_of t) a o)) e ∙ any_nothing g.size)
 
 module _ (t : Tables) (y a : ℕ) where
   abbrev pub others : ℕ → Bool
   others z = free_linked t y z && not (eqb z a)
 
   module _ (g : Graph) (simple : Simple g) (k : Agrees g t) where
-    others_are : others ≡ ends-path g (partners_of t) a (Some y)
+    others_are : others ≡ ends_path g (partners_of t) a (Some y)
     others_are = fun_ext (λ z. ap (λ (b : Bool). b && not (eqb z a)) (k.tracks.sets y z))
 
     free_past : (z : ℕ) → g.size ≤ z → free_linked t y z ≡ false

@@ -2,7 +2,7 @@
 use Rattle.std.proofs.Common.{◌≡◌, ℕ, zero, suc, ◌+◌, ◌≤◌, List, [], ◌∷◌, sym, refl, ap, ◌∙◌, subst, inl, inr, add-one, arith}
 use Rattle.graph.specs.Graph.{Graph, Simple}
 use Rattle.graph.specs.Matching.{Partners, Matching}
-use Rattle.rules.specs.Repair.{Ranking, match-free, each}
+use Rattle.rules.specs.Repair.{Ranking, match_free, each}
 use Rattle.rules.specs.Calls.{up_to}
 use Rattle.rules.proofs.MatchFree.{match_cases}
 use Rattle.rules.proofs.Updates.{paired_matching}
@@ -21,7 +21,7 @@ module _ (g : Graph) where
       subst (λ (q : Partners). Holds g (h q) t) done.partners (second done.agrees done.matching)
 
   -- matching a load with a free one keeps a matching
-  pub matches : Simple g → (before : Ranking) (a : ℕ) {s t : Tables} → (Agrees g s → Matched before g a s t) → Changes g (match-free before g a) s t
+  pub matches : Simple g → (before : Ranking) (a : ℕ) {s t : Tables} → (Agrees g s → Matched before g a s t) → Changes g (match_free before g a) s t
   matches simple before a {s} {t} matched k m =
       let done = matched k in
       record {

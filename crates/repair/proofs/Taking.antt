@@ -7,7 +7,7 @@ use Rattle.graph.specs.Matching.{Partners, Free, Matching}
 use Rattle.graph.specs.Pairs.{is_free}
 use Rattle.graph.proofs.Partners.{none_is}
 use Rattle.graph.proofs.Paths.{free_apart, linked_apart}
-use Rattle.rules.specs.Repair.{Ranking, paired, freed, paired_found, any_below, free_link, ends-path, begins-path, exchanged, augmented-from, augment, path-start}
+use Rattle.rules.specs.Repair.{Ranking, paired, freed, paired_found, any_below, free_link, ends_path, begins_path, exchanged, augmented_from, augment, path_start_of}
 use Rattle.rules.proofs.First.{first_found}
 use Rattle.rules.proofs.Updates.{paired_other, paired_matching, freed_two, freed_other, freed_matching, displace_is}
 use Rattle.tables.specs.declared.Tables.{Tables}
@@ -75,19 +75,19 @@ freed_paired y z p = λ i w. same w i
     same w = grind (arith, nat_tests)
 
 module _ (before : Ranking) (g : Graph) (simple : Simple g) (a : ℕ) (s : Tables) (free-a : Free (partners_of s) a) (k : Agrees g s) (m : Matching g (partners_of s)) where
-  pub augmented_none : path-start before g (partners_of s) a ≡ None → Augmented before g (partners_of s) a false s
+  pub augmented_none : path_start_of before g (partners_of s) a ≡ None → Augmented before g (partners_of s) a false s
   augmented_none none = record {
     found = sym (ap (λ (o : Option ℕ). is_some o) none);
-    holds = record { partners = sym (ap (augmented-from before g (partners_of s) a) none); agrees = k; matching = m };
+    holds = record { partners = sym (ap (augmented_from before g (partners_of s) a) none); agrees = k; matching = m };
   }
 
   pub augmented_some : (x y z : ℕ) {u t : Tables} → FirstPath before g (partners_of s) a x y z → Takes g a x y s u → Pairing g y z u t →
       Augmented before g (partners_of s) a true t
   augmented_some x y z {u} {t} path take pair =
       let p = partners_of s in
-      let at_x = first_found (before a) g.size (begins-path g p a) x path.start in
-      let (link_x, _) = and_parts (g.linked a x) (any_below g.size (ends-path g p a (p x))) at_x.passes in
-      let at-z = first_found (before y) g.size (ends-path g p a (Some y)) z path.end in
+      let at_x = first_found (before a) g.size (begins_path g p a) x path.start in
+      let (link_x, _) = and_parts (g.linked a x) (any_below g.size (ends_path g p a (p x))) at_x.passes in
+      let at-z = first_found (before y) g.size (ends_path g p a (Some y)) z path.end in
       let (free-link-z, other) = and_parts (free_link g p y z) (not (eqb z a)) at-z.passes in
       let (link_z, is-free-z) = and_parts (g.linked y z) (is_free p z) free-link-z in
       let free_z = none_is (p z) is-free-z in
@@ -95,7 +95,7 @@ module _ (before : Ranking) (g : Graph) (simple : Simple g) (a : ℕ) (s : Table
       let z≢x = free_apart p z x y free_z path.pair in
       let z≢y = free_apart p z y x free_z (m.returned x y path.pair) in
       let taken : augment before g a p ≡ paired y z (freed y (paired a x p)) =
-      ap (augmented-from before g p a) path.start ∙ ap (exchanged before g p a x) path.pair ∙ ap (λ (o : Option ℕ). paired_found y o (paired a x p)) path.end ∙ sym (freed_paired y z (paired a x p)) in
+      ap (augmented_from before g p a) path.start ∙ ap (exchanged before g p a x) path.pair ∙ ap (λ (o : Option ℕ). paired_found y o (paired a x p)) path.end ∙ sym (freed_paired y z (paired a x p)) in
       record {
         found = sym (ap (λ (o : Option ℕ). is_some o) path.start);
         holds = subst (λ (q : Partners). Holds g q t) (sym taken)

@@ -2,7 +2,7 @@
 use Rattle.std.specs.Prelude.{◌≡◌, ℕ, Bool, true, is_some, Some}
 use Rattle.graph.specs.Graph.{Graph}
 use Rattle.graph.specs.Matching.{Partners, Free, Matching}
-use Rattle.rules.specs.Repair.{Ranking, paired, freed, light-partner, path-start, augment}
+use Rattle.rules.specs.Repair.{Ranking, paired, freed, light_partner, path_start_of, augment}
 use Rattle.tables.specs.declared.Tables.{Tables}
 use Rattle.tables.specs.Views.{partners_of, Agrees}
 
@@ -22,7 +22,7 @@ Takes g a x y s t = Free (partners_of s) a → g.linked a x ≡ true → partner
 
 -- the first augmenting path of three links that begins at a was taken, and r says whether there was one
 pub record Augmented (before : Ranking) (g : Graph) (p : Partners) (a : ℕ) (r : Bool) (t : Tables) : Type 0 where
-  pub found : r ≡ is_some (path-start before g p a)
+  pub found : r ≡ is_some (path_start_of before g p a)
   pub holds : Holds g (augment before g a p) t
 
 abbrev pub Augments : Ranking → Graph → ℕ → Bool → Tables → Tables → Type 0
@@ -30,4 +30,4 @@ Augments before g a r s t = Free (partners_of s) a → Agrees g s → Matching g
 
 -- r says whether x has a partner of at most n links
 abbrev pub LightPartner : ℕ → ℕ → Tables → Bool → Type 0
-LightPartner n x t r = (g : Graph) → Agrees g t → r ≡ light-partner g n (partners_of t x)
+LightPartner n x t r = (g : Graph) → Agrees g t → r ≡ light_partner g n (partners_of t x)

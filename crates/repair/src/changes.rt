@@ -1,7 +1,7 @@
 // The second phase of a repair at one load: an augmenting path is taken, or a light load is displaced.
 ghost use Rattle.std.specs.Prelude.{◌≡◌};
 ghost use Rattle.graph.specs.Matching.{Free};
-ghost use Rattle.rules.specs.Repair.{light-start, displace, improve};
+ghost use Rattle.rules.specs.Repair.{light_start_of, displace, improve};
 ghost use Rattle.tables.specs.Views.{partners_of, Agrees};
 ghost use Rattle.tables.specs.Changes.{OfBook};
 ghost use Rattle.repair.specs.Holds.{Changes, Takes, Augments, LightPartner};
@@ -50,7 +50,7 @@ fn light_start<L: Links, R: Ranking>(
     threshold: usize,
     a: usize,
 ) -> Option<usize>
-    ensures { OfBook (L.Links.made links.now) (L.Links.graph links.now) (λ g. Agrees g tables.now → result ≡ light-start (R.Ranking.before ranking.now) threshold g (partners_of tables.now) a) }
+    ensures { OfBook (L.Links.made links.now) (L.Links.graph links.now) (λ g. Agrees g tables.now → result ≡ light_start_of (R.Ranking.before ranking.now) threshold g (partners_of tables.now) a) }
 {
     let mut best = None;
     let mut from = 0;

@@ -2,7 +2,7 @@
 // matched with a free one, then each that is still free is improved.
 #![tactic(auto)]
 ghost use Rattle.std.specs.Prelude.{[], ◌∷◌, Some};
-ghost use Rattle.rules.specs.Repair.{each, match-free, improve, repair};
+ghost use Rattle.rules.specs.Repair.{each, match_free, improve, repair};
 ghost use Rattle.rules.specs.Calls.{in_order, the_one, up_to};
 ghost use Rattle.tables.specs.Changes.{OfBook};
 ghost use Rattle.repair.specs.Holds.{Changes};
@@ -66,7 +66,7 @@ pub fn repair_two<L: Links, R: Ranking>(
 
 // The first phase at the loads below `size`.
 fn match_all<L: Links, R: Ranking>(tables: &mut Tables, links: &L, ranking: &R, size: usize)
-    ensures { OfBook (L.Links.made links.now) (L.Links.graph links.now) (λ g. Changes g (each (match-free (R.Ranking.before ranking.now) g) (up_to size [])) tables.old tables.new) }
+    ensures { OfBook (L.Links.made links.now) (L.Links.graph links.now) (λ g. Changes g (each (match_free (R.Ranking.before ranking.now) g) (up_to size [])) tables.old tables.new) }
 {
     for a in 0..size {
         tables.match_free(links, ranking, a);

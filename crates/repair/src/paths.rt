@@ -1,6 +1,6 @@
 // The search for an augmenting path of three links.
 ghost use Rattle.std.specs.Prelude.{◌≡◌};
-ghost use Rattle.rules.specs.Repair.{path-start};
+ghost use Rattle.rules.specs.Repair.{path_start_of};
 ghost use Rattle.tables.specs.Views.{partners_of, free_linked, Agrees};
 ghost use Rattle.tables.specs.Changes.{OfBook};
 ghost use Rattle.repair.specs.Paths.{FirstOther, HasOther, GoesOver, PathIs};
@@ -68,7 +68,7 @@ fn path_start<L: Links, R: Ranking>(
     ranking: &R,
     a: usize,
 ) -> Option<usize>
-    ensures { OfBook (L.Links.made links.now) (L.Links.graph links.now) (λ g. Agrees g tables.now → result ≡ path-start (R.Ranking.before ranking.now) g (partners_of tables.now) a) }
+    ensures { OfBook (L.Links.made links.now) (L.Links.graph links.now) (λ g. Agrees g tables.now → result ≡ path_start_of (R.Ranking.before ranking.now) g (partners_of tables.now) a) }
 {
     let mut best = None;
     let mut from = 0;

@@ -8,7 +8,7 @@ use Rattle.graph.proofs.Partners.{cases_option}
 use Rattle.graph.proofs.Paths.{free_apart, linked_apart}
 use Rattle.rules.specs.Calls.{in_order, parted, parted_from, the_one}
 use Rattle.rules.specs.Health.{Healthy}
-use Rattle.rules.specs.Repair.{Ranking, paired, freed, match-free, improve, repair}
+use Rattle.rules.specs.Repair.{Ranking, paired, freed, match_free, improve, repair}
 use Rattle.rules.proofs.Changes.{Alike, AtMost, Besides, paired_alike, improve_few, improve_taken, improve_done}
 use Rattle.rules.proofs.Fewer.{unlink_phase}
 use Rattle.rules.proofs.Improve.{improve_more}
@@ -26,10 +26,10 @@ outside_append (a ∷ l) m u (i, o) = let (j, k) = outside_append l m u o in ((i
 
 module _ (before : Ranking) (t : ℕ) (g : Graph) (s : Simple g) where
   abbrev matched : ℕ → Partners → Partners
-  matched a p = match-free before g a p
+  matched a p = match_free before g a p
 
-  abbrev improved-at : ℕ → Partners → Partners
-  improved-at a p = improve before t g a p
+  abbrev improved_at : ℕ → Partners → Partners
+  improved_at a p = improve before t g a p
 
   match_taken : (p : Partners) (a b : ℕ) → p a ≡ Some b → matched a p ≡ p
   match_taken p a b e = cc
@@ -49,47 +49,47 @@ module _ (before : Ranking) (t : ℕ) (g : Graph) (s : Simple g) where
     | inr (b, _, _, _, same) ↦ inr (b, ap (λ (r : Partners). r a) same ∙ paired_left a b p, subst (Alike (a ∷ b ∷ []) p) (sym same) (paired_alike a b p))
   ]
 
-  one_few : (p : Partners) (a : ℕ) → Besides a 5 p (improved-at a (matched a p))
+  one_few : (p : Partners) (a : ℕ) → Besides a 5 p (improved_at a (matched a p))
   one_few p a = elim (match_few p a) [
-    | inl same ↦ subst (λ q. Besides a 5 p (improved-at a q)) (sym same) (improve_few before g t p a)
+    | inl same ↦ subst (λ q. Besides a 5 p (improved_at a q)) (sym same) (improve_few before g t p a)
     | inr (b, e, h) ↦ subst (Besides a 5 p) (sym (improve_taken before g t (matched a p) a b e)) (b ∷ [], omega arith, h)
   ]
 
   -- ---- the repair of two loads
 
   module _ (few : 2 * link_count g ≤ t * t) (p : Partners) (c d : ℕ) (k : MatchPhase g t (Outside (c ∷ d ∷ [])) (Outside (c ∷ d ∷ [])) p) where
-    abbrev both-matched : Partners
-    both-matched = matched d (matched c p)
+    abbrev both_matched : Partners
+    both_matched = matched d (matched c p)
 
-    after_matching : AugmentPhase g t (Outside (c ∷ d ∷ [])) both-matched
-    after_matching = matched_phase g t (Outside (c ∷ d ∷ [])) both-matched (match_all before g s t (c ∷ d ∷ []) (Outside (c ∷ d ∷ [])) p k)
+    after_matching : AugmentPhase g t (Outside (c ∷ d ∷ [])) both_matched
+    after_matching = matched_phase g t (Outside (c ∷ d ∷ [])) both_matched (match_all before g s t (c ∷ d ∷ []) (Outside (c ∷ d ∷ [])) p k)
 
     -- with d taken, c is the only load to improve
-    d_taken : (b : ℕ) → both-matched d ≡ Some b → improved-at d (improved-at c both-matched) ≡ improved-at c both-matched
-    d_taken b e = improve_done before g t s (improved-at c both-matched) d (improve_more before g s t few (Outside []) both-matched c
-        (taken_more g t (Outside (c ∷ [])) both-matched d b
-        (fewer_done g t (Outside (c ∷ d ∷ [])) (Outside (d ∷ c ∷ [])) both-matched (λ u (i, (j, _)). (j, (i, tt))) after_matching) e))
+    d_taken : (b : ℕ) → both_matched d ≡ Some b → improved_at d (improved_at c both_matched) ≡ improved_at c both_matched
+    d_taken b e = improve_done before g t s (improved_at c both_matched) d (improve_more before g s t few (Outside []) both_matched c
+        (taken_more g t (Outside (c ∷ [])) both_matched d b
+        (fewer_done g t (Outside (c ∷ d ∷ [])) (Outside (d ∷ c ∷ [])) both_matched (λ u (i, (j, _)). (j, (i, tt))) after_matching) e))
 
-    two_few : (l m : List ℕ) × (length l ≤ 5) × (length m ≤ 5) × Alike ((c ∷ l) ++ (d ∷ m)) p (improved-at d (improved-at c both-matched))
+    two_few : (l m : List ℕ) × (length l ≤ 5) × (length m ≤ 5) × Alike ((c ∷ l) ++ (d ∷ m)) p (improved_at d (improved_at c both_matched))
     two_few = elim (match_few p c) [
       | inr (b, e, h) ↦
-          let still : improved-at c both-matched ≡ both-matched = improve_taken before g t both-matched c b (match_keeps (matched c p) d c b e) in
+          let still : improved_at c both_matched ≡ both_matched = improve_taken before g t both_matched c b (match_keeps (matched c p) d c b e) in
           let (m, few-m, h') = one_few (matched c p) d in (
             b ∷ [],
             m,
             omega arith,
             few-m,
             λ w o. let (i, j) = outside_append (c ∷ b ∷ []) (d ∷ m) w o in
-                ap (λ r. improved-at d r w) still ∙ (h' w j ∙ h w i),
+                ap (λ r. improved_at d r w) still ∙ (h' w j ∙ h w i),
           )
       | inl same-c ↦ elim (match_few (matched c p) d) [
         | inl same-d ↦
-            let e : both-matched ≡ p = same-d ∙ same-c in
+            let e : both_matched ≡ p = same-d ∙ same-c in
             let (l, few-l, h) = improve_few before g t p c in
-            let (m, few-m, h') = improve_few before g t (improved-at c p) d in
-            (l, m, few-l, few-m, λ w o. let (i, j) = outside_append (c ∷ l) (d ∷ m) w o in ap (λ r. improved-at d (improved-at c r) w) e ∙ (h' w j ∙ h w i))
+            let (m, few-m, h') = improve_few before g t (improved_at c p) d in
+            (l, m, few-l, few-m, λ w o. let (i, j) = outside_append (c ∷ l) (d ∷ m) w o in ap (λ r. improved_at d (improved_at c r) w) e ∙ (h' w j ∙ h w i))
         | inr (b, e, h) ↦
-            let (l, few-l, h') = improve_few before g t both-matched c in (
+            let (l, few-l, h') = improve_few before g t both_matched c in (
               l,
               b ∷ [],
               few-l,
@@ -105,7 +105,7 @@ module _ (before : Ranking) (t : ℕ) (g : Graph) (s : Simple g) where
         (only-d : (v : ℕ) → Free p c → Free p v → g.linked c v ≡ true → v ≡ d)
         (only-c : (v : ℕ) → Free p d → Free p v → g.linked d v ≡ true → v ≡ c) where
       -- both were free: they are partners now, and nothing is left to do
-      linked_free : Free p c → Free p d → AtMost 6 p (improved-at d (improved-at c both-matched))
+      linked_free : Free p c → Free p d → AtMost 6 p (improved_at d (improved_at c both_matched))
       linked_free free-c free_d = elim (match_cases before g s p c) [
         | inl (_, none) ↦ absurd (none d free-c free_d link)
         | inr (b, _, free-b, link-b, same) ↦
@@ -114,10 +114,10 @@ module _ (before : Ranking) (t : ℕ) (g : Graph) (s : Simple g) where
             let q = paired c d p in
             let at_c : q c ≡ Some d = paired_left c d p in
             let at-d : q d ≡ Some c = paired_right c d p apart in
-            let is-q : both-matched ≡ q = ap (matched d) (same ∙ ap (λ (v : ℕ). paired c v p) b≡d) ∙ match_taken q d c at-d in
+            let is-q : both_matched ≡ q = ap (matched d) (same ∙ ap (λ (v : ℕ). paired c v p) b≡d) ∙ match_taken q d c at-d in
             let done = taken_more g t (Outside []) q d c (taken_more g t (Outside (d ∷ [])) q c d (subst (AugmentPhase g t (Outside (c ∷ d ∷ []))) is-q after_matching) at_c) at-d in
-            let end : improved-at d (improved-at c both-matched) ≡ q =
-            ap (λ r. improved-at d (improved-at c r)) is-q ∙ (ap (improved-at d) (improve_done before g t s q c done) ∙ improve_done before g t s q d done) in
+            let end : improved_at d (improved_at c both_matched) ≡ q =
+            ap (λ r. improved_at d (improved_at c r)) is-q ∙ (ap (improved_at d) (improve_done before g t s q c done) ∙ improve_done before g t s q d done) in
             (c ∷ d ∷ [], omega arith, subst (Alike (c ∷ d ∷ []) p) (sym end) (paired_alike c d p))
       ]
 
@@ -134,20 +134,20 @@ module _ (before : Ranking) (t : ℕ) (g : Graph) (s : Simple g) where
         | inr (b, free_d, free-b, link-b, _) ↦ absurd (free_apart p b c x free-b e (only-c b free_d free-b link-b))
       ]
 
-      pub linked_few : AtMost 6 p (improved-at d (improved-at c both-matched))
+      pub linked_few : AtMost 6 p (improved_at d (improved_at c both_matched))
       linked_few = elim (cases_option (p c)) [
         | inr (x, e) ↦
-            let is-p : both-matched ≡ p = ap (matched d) (match_taken p c x e) ∙ match_d x e in
-            let end : improved-at d (improved-at c both-matched) ≡ improved-at d p =
-            ap (λ r. improved-at d (improved-at c r)) is-p ∙ ap (improved-at d) (improve_taken before g t p c x e) in
+            let is-p : both_matched ≡ p = ap (matched d) (match_taken p c x e) ∙ match_d x e in
+            let end : improved_at d (improved_at c both_matched) ≡ improved_at d p =
+            ap (λ r. improved_at d (improved_at c r)) is-p ∙ ap (improved_at d) (improve_taken before g t p c x e) in
             let (l, few-l, h) = improve_few before g t p d in
             (d ∷ l, omega arith, subst (Alike (d ∷ l) p) (sym end) h)
         | inl free-c ↦ elim (cases_option (p d)) [
           | inl free_d ↦ linked_free free-c free_d
           | inr (x, e) ↦
-              let is-p : both-matched ≡ p = ap (matched d) (match_c x e) ∙ match_taken p d x e in
-              let end : improved-at d (improved-at c both-matched) ≡ improved-at c p =
-              d_taken x (ap (λ (r : Partners). r d) is-p ∙ e) ∙ ap (improved-at c) is-p in
+              let is-p : both_matched ≡ p = ap (matched d) (match_c x e) ∙ match_taken p d x e in
+              let end : improved_at d (improved_at c both_matched) ≡ improved_at c p =
+              d_taken x (ap (λ (r : Partners). r d) is-p ∙ e) ∙ ap (improved_at c) is-p in
               let (l, few-l, h) = improve_few before g t p c in
               (c ∷ l, omega arith, subst (Alike (c ∷ l) p) (sym end) h)
         ]

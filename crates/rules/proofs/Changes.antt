@@ -9,7 +9,7 @@ use Rattle.graph.proofs.Injections.{except, count_except, count_except_above, co
 use Rattle.graph.proofs.Partners.{cases_option}
 use Rattle.rules.specs.First.{first}
 use Rattle.rules.specs.Health.{same_partner}
-use Rattle.rules.specs.Repair.{Ranking, paired, freed, paired_found, ends-path, path-start, exchanged, augmented-from, light-start, displaced, displaced-from, displace, improved, improve}
+use Rattle.rules.specs.Repair.{Ranking, paired, freed, paired_found, ends_path, path_start_of, exchanged, augmented_from, light_start_of, displaced, displaced_from, displace, improved, improve}
 use Rattle.rules.proofs.Improve.{taken_path}
 use Rattle.rules.proofs.Phases.{AugmentPhase}
 use Rattle.rules.proofs.Repair.{Outside}
@@ -70,10 +70,10 @@ module _ (before : Ranking) (g : Graph) where
   exchanged_few : (p : Partners) (a x : ℕ) (o : Option ℕ) → Besides a 3 p (exchanged before g p a x o)
   exchanged_few p a x None = unchanged a 3 p
   exchanged_few p a x (Some y) =
-      let (l, few, h) = paired_found_few y (first (before y) g.size (ends-path g p a (Some y))) (paired a x p) in
+      let (l, few, h) = paired_found_few y (first (before y) g.size (ends_path g p a (Some y))) (paired a x p) in
       (x ∷ y ∷ l, omega arith, λ w (i, (j, k)). h w k ∙ paired_alike a x p w (i, (j, tt)))
 
-  augmented_few : (p : Partners) (a : ℕ) (o : Option ℕ) → Besides a 3 p (augmented-from before g p a o)
+  augmented_few : (p : Partners) (a : ℕ) (o : Option ℕ) → Besides a 3 p (augmented_from before g p a o)
   augmented_few p a None = unchanged a 3 p
   augmented_few p a (Some x) = exchanged_few p a x (p x)
 
@@ -82,7 +82,7 @@ module _ (before : Ranking) (g : Graph) where
     displaced_few p a x None = unchanged a 5 p
     displaced_few p a x (Some y) =
         let q : Partners = freed y (paired a x p) in
-        let (l, few, h) = augmented_few q y (path-start before g q y) in (
+        let (l, few, h) = augmented_few q y (path_start_of before g q y) in (
           x ∷ y ∷ l,
           omega arith,
           λ w (i, (j, k)).
@@ -90,21 +90,21 @@ module _ (before : Ranking) (g : Graph) where
               h w k ∙ (same ∙ paired_alike a x p w (i, (j, tt))),
         )
 
-    displaced_from_few : (p : Partners) (a : ℕ) (o : Option ℕ) → Besides a 5 p (displaced-from before t g p a o)
+    displaced_from_few : (p : Partners) (a : ℕ) (o : Option ℕ) → Besides a 5 p (displaced_from before t g p a o)
     displaced_from_few p a None = unchanged a 5 p
     displaced_from_few p a (Some x) = displaced_few p a x (p x)
 
     displace_few : (p : Partners) (a : ℕ) → Besides a 5 p (displace before t g a p)
-    displace_few p a = elim (ltb t (degree g a)) as (λ v. Besides a 5 p (cond v (displaced-from before t g p a (light-start before t g p a)) p))
-        [ true ↦ displaced_from_few p a (light-start before t g p a) | false ↦ unchanged a 5 p ]
+    displace_few p a = elim (ltb t (degree g a)) as (λ v. Besides a 5 p (cond v (displaced_from before t g p a (light_start_of before t g p a)) p))
+        [ true ↦ displaced_from_few p a (light_start_of before t g p a) | false ↦ unchanged a 5 p ]
 
     improved_few : (p : Partners) (a : ℕ) (o : Option ℕ) → Besides a 5 p (improved before t g p a o)
     improved_few p a None = displace_few p a
     improved_few p a (Some x) = let (l, few, h) = exchanged_few p a x (p x) in (l, omega arith, h)
 
     pub improve_few : (p : Partners) (a : ℕ) → Besides a 5 p (improve before t g a p)
-    improve_few p a = elim (is_free p a) as (λ v. Besides a 5 p (cond v (improved before t g p a (path-start before g p a)) p))
-        [ true ↦ improved_few p a (path-start before g p a) | false ↦ unchanged a 5 p ]
+    improve_few p a = elim (is_free p a) as (λ v. Besides a 5 p (cond v (improved before t g p a (path_start_of before g p a)) p))
+        [ true ↦ improved_few p a (path_start_of before g p a) | false ↦ unchanged a 5 p ]
 
     pub improve_taken : (p : Partners) (a b : ℕ) → p a ≡ Some b → improve before t g a p ≡ p
     improve_taken p a b e = cc
@@ -113,7 +113,7 @@ module _ (before : Ranking) (g : Graph) where
     pub improve_done : Simple g → (p : Partners) (a : ℕ) → AugmentPhase g t (Outside []) p → improve before t g a p ≡ p
     improve_done s p a k = elim (cases_option (p a)) [
       | inr (b, e) ↦ improve_taken p a b e
-      | inl n ↦ elim (cases_option (path-start before g p a)) [
+      | inl n ↦ elim (cases_option (path_start_of before g p a)) [
         | inl o ↦ let low = le-ltb t (degree g a) (k.light a tt n) in cc
         | inr (x, o) ↦ let (y, z, w) = taken_path before g s p a x o in
             absurd (w.apart (k.no_walk a x y z tt tt n w.link_x w.pair_x w.link_z w.free_z))

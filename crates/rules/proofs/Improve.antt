@@ -8,7 +8,7 @@ use Rattle.graph.specs.Short.{Maximal, NoWalkFrom}
 use Rattle.graph.proofs.Partners.{cases_option, none_is}
 use Rattle.graph.proofs.Paths.{free_apart, linked_apart}
 use Rattle.rules.specs.First.{first}
-use Rattle.rules.specs.Repair.{Ranking, paired, freed, paired_found, any_below, free_link, ends-path, begins-path, light-partner, path-start, exchanged, augment, light-start, displace, improve}
+use Rattle.rules.specs.Repair.{Ranking, paired, freed, paired_found, any_below, free_link, ends_path, begins_path, light_partner, path_start_of, exchanged, augment, light_start_of, displace, improve}
 use Rattle.rules.proofs.Displacement.{all_heavy}
 use Rattle.rules.proofs.First.{first_found, first_none}
 use Rattle.rules.proofs.Phases.{AugmentPhase, but, taken_more, light_more, changed_phase}
@@ -28,7 +28,7 @@ any_found (suc n) test e = elim (or_cases (any_below n test) (test n) e)
 -- ---- paths of three links
 
 module _ (g : Graph) where
-  ends_are : (p : Partners) (a : ℕ) (o : Option ℕ) (z : ℕ) → ends-path g p a o z ≡ true →
+  ends_are : (p : Partners) (a : ℕ) (o : Option ℕ) (z : ℕ) → ends_path g p a o z ≡ true →
       (y : ℕ) × (o ≡ Some y) × (g.linked y z ≡ true) × (p z ≡ None) × (z ≡ a → ⊥)
   ends_are p a None z e = absurd (both_ways false refl e)
   ends_are p a (Some y) z e =
@@ -36,21 +36,21 @@ module _ (g : Graph) where
       let (l, f) = and_parts (g.linked y z) (is_free p z) r in
       (y, refl, l, none_is (p z) f, eqb-false z a (not-true (eqb z a) d))
 
-  ends_from : (p : Partners) (a y z : ℕ) → g.linked y z ≡ true → p z ≡ None → (z ≡ a → ⊥) → ends-path g p a (Some y) z ≡ true
+  ends_from : (p : Partners) (a y z : ℕ) → g.linked y z ≡ true → p z ≡ None → (z ≡ a → ⊥) → ends_path g p a (Some y) z ≡ true
   ends_from p a y z l n d = and_from (free_link g p y z) (not (eqb z a))
       (and_from (g.linked y z) (is_free p z) l (cc)) (not_from_false (eqb z a) (ne_eqb z a d))
 
 module _ (before : Ranking) (g : Graph) (s : Simple g) where
-  no_start : (p : Partners) (a : ℕ) → path-start before g p a ≡ None → NoWalkFrom g p a
+  no_start : (p : Partners) (a : ℕ) → path_start_of before g p a ≡ None → NoWalkFrom g p a
   no_start p a o x y z l e m n = elim (cases_eq z a) [
     | inl i ↦ i
     | inr i ↦ absurd (
-        let lost = first_none (before a) g.size (begins-path g p a) o x (s.below x a (s.symmetric x a ∙ l)) in
-        elim (and_cases (g.linked a x) (any_below g.size (ends-path g p a (p x))) lost) [
+        let lost = first_none (before a) g.size (begins_path g p a) o x (s.below x a (s.symmetric x a ∙ l)) in
+        elim (and_cases (g.linked a x) (any_below g.size (ends_path g p a (p x))) lost) [
           | inl h ↦ both_ways (g.linked a x) h l
           | inr h ↦
-              let gone = any_none g.size (ends-path g p a (p x)) h z (s.below z y (s.symmetric z y ∙ m)) in
-              both_ways (ends-path g p a (Some y) z) (rw e at gone) (ends_from g p a y z m n i)
+              let gone = any_none g.size (ends_path g p a (p x)) h z (s.below z y (s.symmetric z y ∙ m)) in
+              both_ways (ends_path g p a (Some y) z) (rw e at gone) (ends_from g p a y z m n i)
         ])
   ]
 
@@ -63,18 +63,18 @@ module _ (before : Ranking) (g : Graph) (s : Simple g) where
     pub apart : z ≡ a → ⊥
     pub result : exchanged before g p a x (p x) ≡ paired y z (paired a x p)
 
-  pub taken_path : (p : Partners) (a x : ℕ) → path-start before g p a ≡ Some x → (y z : ℕ) × Taken p a x y z
+  pub taken_path : (p : Partners) (a x : ℕ) → path_start_of before g p a ≡ Some x → (y z : ℕ) × Taken p a x y z
   taken_path p a x o =
-      let f = first_found (before a) g.size (begins-path g p a) x o in
-      let (l, h) = and_parts (g.linked a x) (any_below g.size (ends-path g p a (p x))) f.passes in
-      let (z₀, _, h₀) = any_found g.size (ends-path g p a (p x)) h in
+      let f = first_found (before a) g.size (begins_path g p a) x o in
+      let (l, h) = and_parts (g.linked a x) (any_below g.size (ends_path g p a (p x))) f.passes in
+      let (z₀, _, h₀) = any_found g.size (ends_path g p a (p x)) h in
       let (y, e, l₀, n₀, d₀) = ends_are g p a (p x) z₀ h₀ in
-      elim (cases_option (first (before y) g.size (ends-path g p a (Some y)))) [
+      elim (cases_option (first (before y) g.size (ends_path g p a (Some y)))) [
         | inl w ↦ absurd (
-            let lost = first_none (before y) g.size (ends-path g p a (Some y)) w z₀ (s.below z₀ y (s.symmetric z₀ y ∙ l₀)) in
-            both_ways (ends-path g p a (Some y) z₀) lost (ends_from g p a y z₀ l₀ n₀ d₀))
+            let lost = first_none (before y) g.size (ends_path g p a (Some y)) w z₀ (s.below z₀ y (s.symmetric z₀ y ∙ l₀)) in
+            both_ways (ends_path g p a (Some y) z₀) lost (ends_from g p a y z₀ l₀ n₀ d₀))
         | inr (z, w) ↦
-            let f = first_found (before y) g.size (ends-path g p a (Some y)) z w in
+            let f = first_found (before y) g.size (ends_path g p a (Some y)) z w in
             let (y', e', l', n', d') = ends_are g p a (Some y) z f.passes in
             let same : y ≡ y' = cc in (
               y,
@@ -180,7 +180,7 @@ module _ (g : Graph) (s : Simple g) (t : ℕ) (D : ℕ → Type 0) (p : Partners
 -- ---- one load of the second phase
 
 module _ (before : Ranking) (g : Graph) (s : Simple g) (t : ℕ) where
-  exchanged_more : (D : ℕ → Type 0) (p : Partners) (a x : ℕ) → AugmentPhase g t (but a D) p → p a ≡ None → path-start before g p a ≡ Some x →
+  exchanged_more : (D : ℕ → Type 0) (p : Partners) (a x : ℕ) → AugmentPhase g t (but a D) p → p a ≡ None → path_start_of before g p a ≡ Some x →
       AugmentPhase g t D (exchanged before g p a x (p x))
   exchanged_more D p a x k n o =
       let (y, z, w) = taken_path before g s p a x o in
@@ -188,14 +188,14 @@ module _ (before : Ranking) (g : Graph) (s : Simple g) (t : ℕ) where
 
   augment_more : (D : ℕ → Type 0) (p : Partners) (a : ℕ) → AugmentPhase g t (but a D) p → p a ≡ None → degree g a ≤ t →
       AugmentPhase g t D (augment before g a p)
-  augment_more D p a k n small = elim (cases_option (path-start before g p a)) [
+  augment_more D p a k n small = elim (cases_option (path_start_of before g p a)) [
     | inl o ↦ let same : augment before g a p ≡ p = cc in
         subst (AugmentPhase g t D) (sym same) (light_more g s t D p a k (no_start before g s p a o) small)
     | inr (x, o) ↦ let same : augment before g a p ≡ exchanged before g p a x (p x) = cc in
         subst (AugmentPhase g t D) (sym same) (exchanged_more D p a x k n o)
   ]
 
-  light_is : (o : Option ℕ) → light-partner g t o ≡ true → (y : ℕ) × (o ≡ Some y) × (degree g y ≤ t)
+  light_is : (o : Option ℕ) → light_partner g t o ≡ true → (y : ℕ) × (o ≡ Some y) × (degree g y ≤ t)
   light_is None e = absurd (both_ways false refl e)
   light_is (Some y) e = (y, refl, leb-true (degree g y) t e)
 
@@ -205,18 +205,18 @@ module _ (before : Ranking) (g : Graph) (s : Simple g) (t : ℕ) where
     displace_more D p a k n none = elim (cases_Bool (ltb t (degree g a))) [
       | inr e ↦ let same : displace before t g a p ≡ p = cc in
           subst (AugmentPhase g t D) (sym same) (light_more g s t D p a k none (ltb-false t (degree g a) e))
-      | inl e ↦ elim (cases_option (light-start before t g p a)) [
+      | inl e ↦ elim (cases_option (light_start_of before t g p a)) [
         | inl o ↦ absurd (all_heavy g s t few p k.matching a (ltb-true t (degree g a) e) (λ x l.
             elim (cases_option (p x)) [
               | inl m ↦ absurd (k.maximal a x n m l)
               | inr (y, m) ↦
-                  let lost = first_none (before a) g.size (λ x. g.linked a x && light-partner g t (p x)) o x (s.below x a (s.symmetric x a ∙ l)) in
+                  let lost = first_none (before a) g.size (λ x. g.linked a x && light_partner g t (p x)) o x (s.below x a (s.symmetric x a ∙ l)) in
                   let heavy : leb (degree g y) t ≡ false = cc in
                   (y, m, leb-false (degree g y) t heavy)
             ]))
         | inr (x, o) ↦
-            let f = first_found (before a) g.size (λ x. g.linked a x && light-partner g t (p x)) x o in
-            let (l, h) = and_parts (g.linked a x) (light-partner g t (p x)) f.passes in
+            let f = first_found (before a) g.size (λ x. g.linked a x && light_partner g t (p x)) x o in
+            let (l, h) = and_parts (g.linked a x) (light_partner g t (p x)) f.passes in
             let (y, m, d) = light_is (p x) h in
             let q : Partners = freed y (paired a x p) in
             let same : displace before t g a p ≡ augment before g y q = cc in
@@ -228,7 +228,7 @@ module _ (before : Ranking) (g : Graph) (s : Simple g) (t : ℕ) where
     pub improve_more : (D : ℕ → Type 0) (p : Partners) (a : ℕ) → AugmentPhase g t (but a D) p → AugmentPhase g t D (improve before t g a p)
     improve_more D p a k = elim (cases_option (p a)) [
       | inr (b, e) ↦ let same : improve before t g a p ≡ p = cc in subst (AugmentPhase g t D) (sym same) (taken_more g t D p a b k e)
-      | inl n ↦ elim (cases_option (path-start before g p a)) [
+      | inl n ↦ elim (cases_option (path_start_of before g p a)) [
         | inl o ↦ let same : improve before t g a p ≡ displace before t g a p = cc in
             subst (AugmentPhase g t D) (sym same) (displace_more D p a k n (no_start before g s p a o))
         | inr (x, o) ↦ let same : improve before t g a p ≡ exchanged before g p a x (p x) = cc in

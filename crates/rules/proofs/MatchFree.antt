@@ -7,7 +7,7 @@ use Rattle.graph.specs.Pairs.{is_free}
 use Rattle.graph.proofs.Partners.{cases_option, none_is}
 use Rattle.graph.proofs.Paths.{free_taken, linked_apart}
 use Rattle.rules.specs.First.{first}
-use Rattle.rules.specs.Repair.{Ranking, paired, free_link, match-free}
+use Rattle.rules.specs.Repair.{Ranking, paired, free_link, match_free}
 use Rattle.rules.proofs.First.{first_found, first_none}
 use Rattle.rules.proofs.Phases.{MatchPhase, but}
 use Rattle.rules.proofs.Updates.{paired_some, paired_free, paired_matching, forth, back, old}
@@ -49,8 +49,8 @@ unpaired_more g s t F D p a k none = record {
 module _ (before : Ranking) (g : Graph) (s : Simple g) where
   -- matching a leaves the partners as they are, or pairs a with a free load
   pub match_cases : (p : Partners) (a : ℕ) →
-      ((match-free before g a p ≡ p) × ((v : ℕ) → Free p a → Free p v → g.linked a v ≡ true → ⊥)) ⊎
-      ((b : ℕ) × Free p a × Free p b × (g.linked a b ≡ true) × (match-free before g a p ≡ paired a b p))
+      ((match_free before g a p ≡ p) × ((v : ℕ) → Free p a → Free p v → g.linked a v ≡ true → ⊥)) ⊎
+      ((b : ℕ) × Free p a × Free p b × (g.linked a b ≡ true) × (match_free before g a p ≡ paired a b p))
   match_cases p a = elim (cases_option (p a)) [
     | inr (b, e) ↦ inl ((cc), (λ v n _ _. free_taken (p a) b n e))
     | inl free-a ↦ elim (cases_option (first (before a) g.size (free_link g p a))) [
@@ -67,7 +67,7 @@ module _ (before : Ranking) (g : Graph) (s : Simple g) where
     ]
   ]
 
-  pub match_more : (t : ℕ) (F D : ℕ → Type 0) (p : Partners) (a : ℕ) → MatchPhase g t (but a F) D p → MatchPhase g t F D (match-free before g a p)
+  pub match_more : (t : ℕ) (F D : ℕ → Type 0) (p : Partners) (a : ℕ) → MatchPhase g t (but a F) D p → MatchPhase g t F D (match_free before g a p)
   match_more t F D p a k = elim (match_cases p a) [
     | inl (same, none) ↦ subst (MatchPhase g t F D) (sym same) (unpaired_more g s t F D p a k none)
     | inr (b, free-a, free-b, link, same) ↦ subst (MatchPhase g t F D) (sym same) (paired_more g s t F D p a b k free-a link free-b)

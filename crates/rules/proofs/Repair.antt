@@ -6,7 +6,7 @@ use Rattle.graph.specs.Matching.{Partners}
 use Rattle.graph.proofs.Counts.{count_none}
 use Rattle.graph.proofs.Short.{short_paths}
 use Rattle.rules.specs.Health.{Healthy}
-use Rattle.rules.specs.Repair.{Ranking, each, match-free, improve, repair}
+use Rattle.rules.specs.Repair.{Ranking, each, match_free, improve, repair}
 use Rattle.rules.proofs.Improve.{improve_more}
 use Rattle.rules.proofs.MatchFree.{match_more}
 use Rattle.rules.proofs.Phases.{MatchPhase, AugmentPhase, but}
@@ -53,9 +53,9 @@ pub matched_phase : (g : Graph) (t : ℕ) (D : ℕ → Type 0) (p : Partners) �
 matched_phase g t D p k = record { matching = k.matching; maximal = λ u v. k.maximal u v tt tt; no_walk = k.no_walk; light = k.light }
 
 module _ (before : Ranking) (g : Graph) (s : Simple g) (t : ℕ) where
-  pub match_all : (l : List ℕ) (D : ℕ → Type 0) (p : Partners) → MatchPhase g t (Outside l) D p → MatchPhase g t (Outside []) D (each (match-free before g) l p)
+  pub match_all : (l : List ℕ) (D : ℕ → Type 0) (p : Partners) → MatchPhase g t (Outside l) D p → MatchPhase g t (Outside []) D (each (match_free before g) l p)
   match_all [] D p k = k
-  match_all (a ∷ l) D p k = match_all l D (match-free before g a p) (match_more before g s t (Outside l) D p a k)
+  match_all (a ∷ l) D p k = match_all l D (match_free before g a p) (match_more before g s t (Outside l) D p a k)
 
   module _ (few : 2 * link_count g ≤ t * t) where
     improve_all : (l : List ℕ) (p : Partners) → AugmentPhase g t (Outside l) p → AugmentPhase g t (Outside []) (each (improve before t g) l p)
@@ -64,5 +64,5 @@ module _ (before : Ranking) (g : Graph) (s : Simple g) (t : ℕ) where
 
     pub repair_healthy : (l : List ℕ) (p : Partners) → MatchPhase g t (Outside l) (Outside l) p → Healthy g t (repair before t g l p)
     repair_healthy l p k =
-        let q = each (match-free before g) l p in
+        let q = each (match_free before g) l p in
         all_done g s t (repair before t g l p) (improve_all l q (matched_phase g t (Outside l) q (match_all l (Outside l) p k)))

@@ -7,7 +7,7 @@ use Rattle.rules.specs.Boards.{by_number, fresh, played, six}
 use Rattle.rules.specs.Calls.{Position, Call, link, in_order, parted}
 use Rattle.rules.specs.First.{first}
 use Rattle.rules.specs.Health.{Healthy}
-use Rattle.rules.specs.Repair.{paired, freed, paired_found, any_below, each, free_link, match-free, path-start, exchanged, light-start, displace, improve}
+use Rattle.rules.specs.Repair.{paired, freed, paired_found, any_below, each, free_link, match_free, path_start_of, exchanged, light_start_of, displace, improve}
 use Rattle.rules.specs.Threshold.{threshold}
 
 abbrev pub Unhealthy : Graph → ℕ → Partners → Type 0
@@ -16,7 +16,7 @@ Unhealthy g limit p = Healthy g (threshold limit) p → ⊥
 -- ---- one end of a parted pair fully before the other
 
 abbrev pub repaired_in_turn : ℕ → Graph → List ℕ → Partners → Partners
-repaired_in_turn t g = each (λ a p. improve by_number t g a (match-free by_number g a p))
+repaired_in_turn t g = each (λ a p. improve by_number t g a (match_free by_number g a p))
 
 abbrev pub six_graph : Graph
 six_graph = removed six.graph 0 1
@@ -54,7 +54,7 @@ abbrev pub triangle : Graph
 triangle = added wedge.graph 0 2
 
 abbrev pub triangle_closed : Partners
-triangle_closed = each (closed_improve (threshold 3) triangle) (0 ∷ 2 ∷ []) (each (match-free by_number triangle) (0 ∷ 2 ∷ []) wedge.partners)
+triangle_closed = each (closed_improve (threshold 3) triangle) (0 ∷ 2 ∷ []) (each (match_free by_number triangle) (0 ∷ 2 ∷ []) wedge.partners)
 
 -- load 0 takes 1 from 2, and then 2 takes 0: the partner of 1 is not its own
 pub record Closed : Type 0 where
@@ -73,11 +73,11 @@ only_displaced_from p a None = p
 only_displaced_from p a (Some x) = only_displaced p a x (p x)
 
 abbrev pub only_improved : ℕ → Graph → Partners → ℕ → Option ℕ → Partners
-only_improved t g p a None = cond (nat_lt t (degree g a)) (only_displaced_from p a (light-start by_number t g p a)) p
+only_improved t g p a None = cond (nat_lt t (degree g a)) (only_displaced_from p a (light_start_of by_number t g p a)) p
 only_improved t g p a (Some x) = exchanged by_number g p a x (p x)
 
 abbrev pub only_improve : ℕ → Graph → ℕ → Partners → Partners
-only_improve t g a p = cond (is_free p a) (only_improved t g p a (path-start by_number g p a)) p
+only_improve t g a p = cond (is_free p a) (only_improved t g p a (path_start_of by_number g p a)) p
 
 -- load 0 with five links, and a path from the partner of its first neighbour on: 2, 7, 8, 9
 abbrev pub tail_calls : List Call
@@ -90,7 +90,7 @@ abbrev pub tail_graph : Graph
 tail_graph = added tail.graph 0 6
 
 abbrev pub tail_displaced : Partners
-tail_displaced = each (only_improve (threshold 12) tail_graph) (0 ∷ 6 ∷ []) (each (match-free by_number tail_graph) (0 ∷ 6 ∷ []) tail.partners)
+tail_displaced = each (only_improve (threshold 12) tail_graph) (0 ∷ 6 ∷ []) (each (match_free by_number tail_graph) (0 ∷ 6 ∷ []) tail.partners)
 
 pub record OnlyDisplaced : Type 0 where
   pub left_over : FreeWalk tail_graph tail_displaced 2 7 8 9

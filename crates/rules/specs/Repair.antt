@@ -37,40 +37,40 @@ module _ (g : Graph) where
   free_link p a z = g.linked a z && is_free p z
 
   -- z ends an augmenting path a, x, y, z, where y is the partner of x, if it has one
-  abbrev pub ends-path : Partners → ℕ → Option ℕ → ℕ → Bool
-  ends-path p a None z = false
-  ends-path p a (Some y) z = free_link p y z && not (z == a)
+  abbrev pub ends_path : Partners → ℕ → Option ℕ → ℕ → Bool
+  ends_path p a None z = false
+  ends_path p a (Some y) z = free_link p y z && not (z == a)
 
   -- an augmenting path of three links begins with a, x
-  abbrev pub begins-path : Partners → ℕ → ℕ → Bool
-  begins-path p a x = g.linked a x && any_below g.size (ends-path p a (p x))
+  abbrev pub begins_path : Partners → ℕ → ℕ → Bool
+  begins_path p a x = g.linked a x && any_below g.size (ends_path p a (p x))
 
   -- there is a partner, and it has at most t links
-  abbrev pub light-partner : ℕ → Option ℕ → Bool
-  light-partner t None = false
-  light-partner t (Some y) = nat_le (degree g y) t
+  abbrev pub light_partner : ℕ → Option ℕ → Bool
+  light_partner t None = false
+  light_partner t (Some y) = nat_le (degree g y) t
 
 module _ (before : Ranking) (g : Graph) where
   -- a free load takes the first of the free loads that it is linked to
-  abbrev pub match-free : ℕ → Partners → Partners
-  match-free a p = cond (is_free p a) (paired_found a (first (before a) g.size (free_link g p a)) p) p
+  abbrev pub match_free : ℕ → Partners → Partners
+  match_free a p = cond (is_free p a) (paired_found a (first (before a) g.size (free_link g p a)) p) p
 
   -- the first x such that an augmenting path of three links begins with a, x
-  abbrev pub path-start : Partners → ℕ → Option ℕ
-  path-start p a = first (before a) g.size (begins-path g p a)
+  abbrev pub path_start_of : Partners → ℕ → Option ℕ
+  path_start_of p a = first (before a) g.size (begins_path g p a)
 
   -- the pairs a, x and y, z in place of x, y, where z is the first that ends a path
   abbrev pub exchanged : Partners → ℕ → ℕ → Option ℕ → Partners
   exchanged p a x None = p
-  exchanged p a x (Some y) = paired_found y (first (before y) g.size (ends-path g p a (Some y))) (paired a x p)
+  exchanged p a x (Some y) = paired_found y (first (before y) g.size (ends_path g p a (Some y))) (paired a x p)
 
-  abbrev pub augmented-from : Partners → ℕ → Option ℕ → Partners
-  augmented-from p a None = p
-  augmented-from p a (Some x) = exchanged p a x (p x)
+  abbrev pub augmented_from : Partners → ℕ → Option ℕ → Partners
+  augmented_from p a None = p
+  augmented_from p a (Some x) = exchanged p a x (p x)
 
   -- the first augmenting path of three links that begins at a, if there is one, is taken
   abbrev pub augment : ℕ → Partners → Partners
-  augment a p = augmented-from p a (path-start p a)
+  augment a p = augmented_from p a (path_start_of p a)
 
 module _ (before : Ranking) (t : ℕ) (g : Graph) where
   -- a takes x from its partner y, and then a path that begins at y is taken
@@ -78,17 +78,17 @@ module _ (before : Ranking) (t : ℕ) (g : Graph) where
   displaced p a x None = p
   displaced p a x (Some y) = augment before g y (freed y (paired a x p))
 
-  abbrev pub displaced-from : Partners → ℕ → Option ℕ → Partners
-  displaced-from p a None = p
-  displaced-from p a (Some x) = displaced p a x (p x)
+  abbrev pub displaced_from : Partners → ℕ → Option ℕ → Partners
+  displaced_from p a None = p
+  displaced_from p a (Some x) = displaced p a x (p x)
 
   -- the first load linked to a whose partner has at most t links
-  abbrev pub light-start : Partners → ℕ → Option ℕ
-  light-start p a = first (before a) g.size (λ x. g.linked a x && light-partner g t (p x))
+  abbrev pub light_start_of : Partners → ℕ → Option ℕ
+  light_start_of p a = first (before a) g.size (λ x. g.linked a x && light_partner g t (p x))
 
   -- a load of more than t links displaces a light one
   abbrev pub displace : ℕ → Partners → Partners
-  displace a p = cond (nat_lt t (degree g a)) (displaced-from p a (light-start p a)) p
+  displace a p = cond (nat_lt t (degree g a)) (displaced_from p a (light_start_of p a)) p
 
   -- an augmenting path is taken where one begins, or else a light load is displaced
   abbrev pub improved : Partners → ℕ → Option ℕ → Partners
@@ -96,8 +96,8 @@ module _ (before : Ranking) (t : ℕ) (g : Graph) where
   improved p a (Some x) = exchanged before g p a x (p x)
 
   abbrev pub improve : ℕ → Partners → Partners
-  improve a p = cond (is_free p a) (improved p a (path-start before g p a)) p
+  improve a p = cond (is_free p a) (improved p a (path_start_of before g p a)) p
 
   -- first each load of the set is matched with a free one, then each that is still free is improved
   abbrev pub repair : List ℕ → Partners → Partners
-  repair s p = each improve s (each (match-free before g) s p)
+  repair s p = each improve s (each (match_free before g) s p)

@@ -7,7 +7,7 @@ use Rattle.graph.specs.Pairs.{is_free}
 use Rattle.graph.proofs.Partners.{none_is}
 use Rattle.graph.proofs.Paths.{linked_apart}
 use Rattle.rules.specs.First.{earlier, first}
-use Rattle.rules.specs.Repair.{Ranking, free_link, paired_found, match-free}
+use Rattle.rules.specs.Repair.{Ranking, free_link, paired_found, match_free}
 use Rattle.rules.proofs.First.{first_found}
 use Rattle.tables.specs.declared.Tables.{Tables}
 use Rattle.tables.specs.Views.{partners_of, free_linked, Agrees}
@@ -49,7 +49,7 @@ module _ (before : Ranking) (g : Graph) (simple : Simple g) (a : ℕ) (s : Table
   matched_taken taken = record { partners = sym (cond-false (is_free (partners_of s) a) _ _ taken); agrees = k }
 
   module _ (free : is_free (partners_of s) a ≡ true) where
-    found : (r : Option ℕ) → FirstFree before a s r → match-free before g a (partners_of s) ≡ paired_found a r (partners_of s)
+    found : (r : Option ℕ) → FirstFree before a s r → match_free before g a (partners_of s) ≡ paired_found a r (partners_of s)
     found r h = cond-true (is_free (partners_of s) a) _ _ free ∙ ap (λ (o : Option ℕ). paired_found a o (partners_of s)) (sym (h g simple k))
 
     pub matched_none : FirstFree before a s None → Matched before g a s s

@@ -2,7 +2,7 @@
 use Rattle.std.specs.Prelude.{◌≡◌, ℕ, Option}
 use Rattle.graph.specs.Graph.{Graph, Simple}
 use Rattle.rules.specs.First.{first}
-use Rattle.rules.specs.Repair.{Ranking, free_link, match-free}
+use Rattle.rules.specs.Repair.{Ranking, free_link, match_free}
 use Rattle.tables.specs.declared.Tables.{Tables}
 use Rattle.tables.specs.Views.{partners_of, Agrees}
 
@@ -12,5 +12,5 @@ FirstFree before a t r = (g : Graph) → Simple g → Agrees g t → r ≡ first
 
 -- a, if it is free, was matched with the first free load that it is linked to
 pub record Matched (before : Ranking) (g : Graph) (a : ℕ) (s t : Tables) : Type 0 where
-  pub partners : partners_of t ≡ match-free before g a (partners_of s)
+  pub partners : partners_of t ≡ match_free before g a (partners_of s)
   pub agrees : Agrees g t

@@ -11,7 +11,7 @@ use Rattle.text.specs.declared.stream.BadText.{BadText}
 use Rattle.text.specs.declared.stream.BadText.TheVariants.{Line, TooLong, NoMemory}
 use Rattle.text.specs.declared.stream.BadStream.{BadStream}
 use Rattle.text.specs.declared.stream.BadStream.TheVariants.{At}
-use Rattle.text.specs.declared.stream.BadStream.TheVariants as bad-stream
+use Rattle.text.specs.declared.stream.BadStream.TheVariants as bad_stream
 
 -- one more byte at the start of the first line
 abbrev pub put : ℕ → List (List ℕ) → List (List ℕ)
@@ -72,4 +72,4 @@ pub record Spelled (stream text : List ℕ) : Type 0 where
 abbrev pub Decodes : List ℕ → Result (String Global) BadStream → Type 0
 Decodes stream (Ok text) = Spelled stream (string_bytes text) × StandsFor (string_bytes text) stream
 Decodes stream (Err (At refused place)) = ((text : List ℕ) × Spelled (take place stream) text) × (reading stream place ≡ Some (told refused))
-Decodes stream (Err bad-stream.NoMemory) = Unit {0}
+Decodes stream (Err bad_stream.NoMemory) = Unit {0}

@@ -1,4 +1,4 @@
-use Rattle.rules.specs.Repair.{match-free}
+use Rattle.rules.specs.Repair.{match_free}
 use Rattle.repair.proofs.Rounds.{changes_none, matches, each_more, each_all}
 use Rattle.repair.proofs.match_all.Goals as goal
 
@@ -9,9 +9,9 @@ pub loop-a-preserved : goal.loop-a-preserved
 loop-a-preserved g c = λ made simple.
     let before = g.R.Ranking.before c.args.ranking.now in
     let graph = g.L.Links.graph c.args.links.now in
-    each_more (match-free before graph) graph c.loop-a.a (c.loop-a.invariant made simple) (matches graph simple before c.loop-a.a (c.match-free.ensures made simple))
+    each_more (match_free before graph) graph c.loop-a.a (c.loop-a.invariant made simple) (matches graph simple before c.loop-a.a (c.match-free.ensures made simple))
 
 pub returns : goal.returns
 returns g c = λ made simple.
     let graph = g.L.Links.graph c.args.links.now in
-    each_all (match-free (g.R.Ranking.before c.args.ranking.now) graph) graph c.loop-a.a c.args.size c.loop-a.auto.a-end c.loop-a-test.false (c.loop-a.invariant made simple)
+    each_all (match_free (g.R.Ranking.before c.args.ranking.now) graph) graph c.loop-a.a c.args.size c.loop-a.auto.a-end c.loop-a-test.false (c.loop-a.invariant made simple)

@@ -1,5 +1,5 @@
 use Rattle.std.proofs.Common.{sym, ◌∙◌, inl, inr, ⊎_elim}
-use Rattle.rules.specs.Repair.{light-partner}
+use Rattle.rules.specs.Repair.{light_partner}
 use Rattle.tables.specs.Views.{partners_of}
 use Rattle.tables.proofs.Firsts.{past_size}
 use Rattle.tables.proofs.Steps.{in_range}
@@ -19,13 +19,13 @@ loop-x-preserved g c = λ made simple agrees.
     let light = c.has-light-partner.ensures graph agrees in
     elim c.if-has-light-partner.branch [
       | then-has-light-partner w ↦
-          walk_takes before (graph.linked c.args.a) (λ x. light-partner graph c.args.threshold (p x)) c.loop-x.from c.in-Some.x c.loop-x.best (c.in-Some.ensures made) (c.loop-x.invariant made simple agrees) _ (sym light ∙ w.if-has-light-partner.true) _ w.earlier.ensures w.best-is
+          walk_takes before (graph.linked c.args.a) (λ x. light_partner graph c.args.threshold (p x)) c.loop-x.from c.in-Some.x c.loop-x.best (c.in-Some.ensures made) (c.loop-x.invariant made simple agrees) _ (sym light ∙ w.if-has-light-partner.true) _ w.earlier.ensures w.best-is
       | else-has-light-partner w ↦
-          walk_skips before (graph.linked c.args.a) (λ x. light-partner graph c.args.threshold (p x)) c.loop-x.from c.in-Some.x c.loop-x.best (c.in-Some.ensures made) (c.loop-x.invariant made simple agrees) _ (sym light ∙ w.if-has-light-partner.false) w.best-is
+          walk_skips before (graph.linked c.args.a) (λ x. light_partner graph c.args.threshold (p x)) c.loop-x.from c.in-Some.x c.loop-x.best (c.in-Some.ensures made) (c.loop-x.invariant made simple agrees) _ (sym light ∙ w.if-has-light-partner.false) w.best-is
     ]
 
 pub returns : goal.returns
 returns g c = λ made simple agrees.
     let graph = g.L.Links.graph c.args.links.now in
-    walk_ends (g.R.Ranking.before c.args.ranking.now c.args.a) (graph.linked c.args.a) (λ x. light-partner graph c.args.threshold (partners_of c.args.tables.now x))
+    walk_ends (g.R.Ranking.before c.args.ranking.now c.args.a) (graph.linked c.args.a) (λ x. light_partner graph c.args.threshold (partners_of c.args.tables.now x))
     c.loop-x.from graph.size c.loop-x.best (c.loop-x.invariant made simple agrees) (c.in-default.ensures made) (past_size graph simple c.args.a)

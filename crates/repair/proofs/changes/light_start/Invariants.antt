@@ -1,13 +1,13 @@
 use Rattle.std.proofs.Common.{◌≡◌, ◌-◌, ◌&&◌}
 use Rattle.graph.specs.Graph.{Simple}
 use Rattle.rules.specs.First.{first}
-use Rattle.rules.specs.Repair.{light-partner}
+use Rattle.rules.specs.Repair.{light_partner}
 use Rattle.tables.specs.Views.{partners_of, Agrees}
 use Rattle.repair.proofs.changes.light_start.Given as goal
 
 abbrev pub invariant-loop-x : goal.invariant-loop-x
 invariant-loop-x g l = g.L.Links.made l.links → Simple (g.L.Links.graph l.links) → Agrees (g.L.Links.graph l.links) l.tables →
-    l.best ≡ first (g.R.Ranking.before l.ranking l.a) l.from (λ x. (g.L.Links.graph l.links).linked l.a x && light-partner (g.L.Links.graph l.links) l.threshold (partners_of l.tables x))
+    l.best ≡ first (g.R.Ranking.before l.ranking l.a) l.from (λ x. (g.L.Links.graph l.links).linked l.a x && light_partner (g.L.Links.graph l.links) l.threshold (partners_of l.tables x))
 
 abbrev pub decreases-loop-x : goal.decreases-loop-x
 decreases-loop-x g l = 256 - l.from

@@ -1,5 +1,5 @@
 use Rattle.std.proofs.Common.{sym, ◌∙◌, inl, inr, ⊎_elim}
-use Rattle.rules.specs.Repair.{any_below, ends-path}
+use Rattle.rules.specs.Repair.{any_below, ends_path}
 use Rattle.tables.specs.Views.{partners_of}
 use Rattle.tables.proofs.Firsts.{past_size}
 use Rattle.tables.proofs.Steps.{in_range}
@@ -19,13 +19,13 @@ loop-x-preserved g c = λ made simple agrees.
     let over = c.goes-over.ensures graph simple agrees in
     elim c.if-goes-over.branch [
       | then-goes-over w ↦
-          walk_takes before (graph.linked c.args.a) (λ x. any_below graph.size (ends-path graph p c.args.a (p x))) c.loop-x.from c.in-Some.x c.loop-x.best (c.in-Some.ensures made) (c.loop-x.invariant made simple agrees) _ (sym over ∙ w.if-goes-over.true) _ w.earlier.ensures w.best-is
+          walk_takes before (graph.linked c.args.a) (λ x. any_below graph.size (ends_path graph p c.args.a (p x))) c.loop-x.from c.in-Some.x c.loop-x.best (c.in-Some.ensures made) (c.loop-x.invariant made simple agrees) _ (sym over ∙ w.if-goes-over.true) _ w.earlier.ensures w.best-is
       | else-goes-over w ↦
-          walk_skips before (graph.linked c.args.a) (λ x. any_below graph.size (ends-path graph p c.args.a (p x))) c.loop-x.from c.in-Some.x c.loop-x.best (c.in-Some.ensures made) (c.loop-x.invariant made simple agrees) _ (sym over ∙ w.if-goes-over.false) w.best-is
+          walk_skips before (graph.linked c.args.a) (λ x. any_below graph.size (ends_path graph p c.args.a (p x))) c.loop-x.from c.in-Some.x c.loop-x.best (c.in-Some.ensures made) (c.loop-x.invariant made simple agrees) _ (sym over ∙ w.if-goes-over.false) w.best-is
     ]
 
 pub returns : goal.returns
 returns g c = λ made simple agrees.
     let graph = g.L.Links.graph c.args.links.now in
-    walk_ends (g.R.Ranking.before c.args.ranking.now c.args.a) (graph.linked c.args.a) (λ x. any_below graph.size (ends-path graph (partners_of c.args.tables.now) c.args.a (partners_of c.args.tables.now x)))
+    walk_ends (g.R.Ranking.before c.args.ranking.now c.args.a) (graph.linked c.args.a) (λ x. any_below graph.size (ends_path graph (partners_of c.args.tables.now) c.args.a (partners_of c.args.tables.now x)))
     c.loop-x.from graph.size c.loop-x.best (c.loop-x.invariant made simple agrees) (c.in-default.ensures made) (past_size graph simple c.args.a)
