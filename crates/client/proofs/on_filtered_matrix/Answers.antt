@@ -10,7 +10,7 @@ use Rattle.client.proofs.on_filtered_matrix.Goals as goal
 pub returns : goal.returns
 returns c =
     let stands = through matrix_graph matrix_made matrix_ledger (hidden [] (replicate 8 0)) c.new-matrix.result c.new-book.result (edgeless 3) (fresh 3 3) c.new-matrix.ensures.making.0 c.new-book.ensures.stands in
-    asked _ c.add-and-ask.result
+    asked _ c.add_and_ask.result
     (reason_none (filter_graph matrix_graph) (filter_made matrix_made) (filter_ledger matrix_graph matrix_ledger) c.new-book.result (filtered (hidden [] (replicate 8 0)) (edgeless 3)) (filtered_ledger (hidden [] (replicate 8 0)) 3 (fresh 3 3)) 0 1 stands
     (adding_filtered (hidden [] (replicate 8 0)) (edgeless 3) 0 1 open_pair (fresh 3 3) ∙ refl))
-    (c.add-and-ask.ensures.answer stands.still_made)
+    (c.add_and_ask.ensures.answer stands.still_made)
