@@ -31,11 +31,11 @@ abbrev pub raised : Ledger → ℕ → ℕ → Ledger
 raised l a b =
     record { limit = l.limit; barred = l.barred; spare = λ x. l.spare x + cond (a == x || b == x) 1 0; room = l.room + 1 }
 
+abbrev pub by_book : ℕ → Option Reason
+by_book number = Some (record { number = number; values = []; layer = Book })
+
 abbrev pub by : Layer → ℕ → Option Reason
 by layer number = Some (record { number = number; values = []; layer = layer })
-
-abbrev pub by_book : ℕ → Option Reason
-by_book = by Book
 
 -- 4: not two loads; 5: the same load twice
 abbrev pub unless_two : Layer → ℕ → ℕ → ℕ → Option Reason → Option Reason
@@ -44,15 +44,19 @@ unless_two layer size a b otherwise = cond (nat_le size a || nat_le size b) (by 
 -- the first reason to refuse to add a link of a and b
 abbrev pub adding : Graph → Ledger → ℕ → ℕ → Option Reason
 adding g l a b =
-    unless_two Book g.size a b
+    cond (nat_le g.size a || nat_le g.size b) (by_book 4)
+    (cond (a == b) (by_book 5)
     (cond (l.barred a b) (by_book 8)
     (cond (g.linked a b) (by_book 6)
     (cond (l.spare a == 0 || l.spare b == 0) (by_book 9)
-    (cond (l.room == 0) (by_book 10) None))))
+    (cond (l.room == 0) (by_book 10) None)))))
 
 -- the first reason to refuse to remove the link of a and b
 abbrev pub removing : Graph → ℕ → ℕ → Option Reason
-removing g a b = unless_two Book g.size a b (cond (g.linked a b) None (by_book 7))
+removing g a b =
+    cond (nat_le g.size a || nat_le g.size b) (by_book 4)
+    (cond (a == b) (by_book 5)
+    (cond (g.linked a b) None (by_book 7)))
 
 -- what a book allows for a link of a and b, as its ledger has it
 pub record Allows (l : Ledger) (a b : ℕ) (o : Allowance) : Type 0 where
