@@ -5,7 +5,7 @@ usage: tools/respell.py      at the top of the repository, once, after the kit's
 
 A row of the table is an old name, a tab and the new name: words in snake case, types in camel case. What turns:
   .antt   the code, and code spans of comments; in the answers of a function the first name behind c., w. and the like
-          stays, since it names a step that Rattle makes
+          stays, since it names a step that Rattle makes; and so does a name that the file imports from a library
   .rt     clauses and imports, that is every word but those of comments and strings; code spans of comments
   .edit   its lines, as the file that they change
   .md     code spans
@@ -18,6 +18,7 @@ import sys
 HERE = os.path.dirname(os.path.realpath(__file__))
 WORD = re.compile(r'[^\s(){}.;,@"«»\[\]]+')
 SPAN = re.compile(r"`[^`\n]+`")
+IMPORT = re.compile(r"^use ((?:mathlib|native|lib|denote|borrow|Prim|Rattle\.std)\b[^\s{]*)\{([^}]*)\}", re.M)
 STRING = re.compile(r'"(?:\\.|[^"\\\n])*"')
 MADE = re.compile(r"(?<![^\s(){};,\[])(?:c|w|w'|goal|l|g|v|u)\.$")
 
@@ -81,7 +82,9 @@ def main():
         with open(path, encoding="utf-8") as f:
             text = f.read()
         kind = kind_of(path, text)
-        new = "\n".join(line_of(line, rows, kind) for line in text.split("\n"))
+        library = {n for m in IMPORT.finditer(text) for n in re.split(r"[,\s]+", m[2])}
+        here = {old: new for old, new in rows.items() if old not in library}
+        new = "\n".join(line_of(line, here, kind) for line in text.split("\n"))
         if new != text:
             changed += 1
             with open(path, "w", encoding="utf-8") as f:

@@ -1,6 +1,6 @@
 -- Lists of numbers that rise strictly: what stands in them, and how many.
 use Rattle.std.proofs.Common.{◌≡◌, ℕ, zero, suc, ◌+◌, ◌-◌, ◌<◌, ◌≤◌, Bool, true, false, not, ◌&&◌, ◌||◌, eqb, ltb, List, [], ◌∷◌, length, get_or, sym, refl, ap, ◌∙◌, ⊎_elim, arith}
-use mathlib.Core.Bool.{or-false, or_comm, or_assoc, and_true}
+use mathlib.Core.Bool.{or-false, or_comm, or_assoc, and-true}
 use Rattle.std.specs.List.{insert, remove}
 use Rattle.std.proofs.lemmas.Bool.{cases_lt, cases_eq, lt-ltb, le-ltb, ltb-true, eq-eqb, ne_eqb, eqb-true, eqb-false, or_cases, or_parts, or_left, or_right, or_from, both_ways}
 use Rattle.rise.specs.Rise.{Rises}
@@ -147,7 +147,7 @@ has_rest : (x : ℕ) (xs : List ℕ) (y : ℕ) → Above (suc x) xs → has xs y
 has_rest x xs y above =
     ⊎_elim
     (λ e. let off : has xs y ≡ false = has_below (suc x) xs y above (omega arith) in rw (off, eq-eqb x y e))
-    (λ ne. rw (ne_eqb x y ne) (sym (and_true (has xs y))))
+    (λ ne. rw (ne_eqb x y ne) (sym (and-true (has xs y))))
     (cases_eq x y)
 
 pub has_removed : (m : ℕ) (xs : List ℕ) (b y : ℕ) → Above m xs → has xs b ≡ true → has (remove xs (place xs b)) y ≡ (has xs y && not (eqb b y))

@@ -1,6 +1,6 @@
 -- A book in rows with a link more or less.
 use Rattle.std.proofs.Common.{◌≡◌, ℕ, ◌+◌, ◌-◌, ◌*◌, ◌<◌, ◌≤◌, Bool, true, false, cond, not, ◌&&◌, ◌||◌, eqb, ltb, List, [], length, get_or, sym, refl, ap, ◌∙◌, subst, ap₂, ⊎_elim, arith}
-use mathlib.Core.Bool.{or-false, and_true}
+use mathlib.Core.Bool.{or-false, and-true}
 use Rattle.std.proofs.lemmas.Bool.{cases_lt, cases_eq, lt-ltb, le-ltb, cond-true, eq-eqb, ne_eqb, or_from, or_right, and_right}
 use Rattle.graph.specs.Graph.{Graph, is_pair, added, removed, link_count}
 use Rattle.graph.proofs.Counts.{OneMore, not_pair, link_count_more}
@@ -29,7 +29,7 @@ pair_first : (a b y : ℕ) → (a ≡ b → ⊥) → is_pair a b a y ≡ eqb b y
 pair_first a b y ne = rw (eq-eqb a a refl, ne_eqb b a (λ e. ne (sym e))) (ap (λ (t : Bool). eqb b y || t) (and_right (eqb a y) false refl) ∙ or-false (eqb b y))
 
 pair_second : (a b y : ℕ) → (a ≡ b → ⊥) → is_pair a b b y ≡ eqb a y
-pair_second a b y ne = rw (eq-eqb b b refl, ne_eqb a b ne) (and_true (eqb a y))
+pair_second a b y ne = rw (eq-eqb b b refl, ne_eqb a b ne) (and-true (eqb a y))
 
 pair_other : (a b x y : ℕ) → (x ≡ a → ⊥) → (x ≡ b → ⊥) → is_pair a b x y ≡ false
 pair_other a b x y na nb = not_pair a b x y (λ e _. na (sym e)) (λ _ e. nb (sym e))
@@ -181,7 +181,7 @@ module _ (n d limit total : ℕ) (memory : List ℕ) (made : RowsMade n d limit 
     without_b = without_load n d b (row_of d memory b) (made.rows b lb) long_b a (sym linked_b ∙ on)
 
     linked_less : (x y : ℕ) → (graph_of n d (both_changed row_without d memory a b)).linked x y ≡ ((graph_of n d memory).linked x y && not (is_pair a b x y))
-    linked_less = linked_after n d limit total memory made a b la lb ne cut and_true _ _ without_a without_b
+    linked_less = linked_after n d limit total memory made a b la lb ne cut and-true _ _ without_a without_b
 
     one_less : OneMore (graph_of n d (both_changed row_without d memory a b)).linked (graph_of n d memory).linked a b
     one_less =
@@ -190,12 +190,12 @@ module _ (n d limit total : ℕ) (memory : List ℕ) (made : RowsMade n d limit 
           off_back = linked_less b a ∙ and_right _ _ (ap not (pair_back a b));
           on = on;
           on_back = made.symmetric b a ∙ on;
-          same = λ x y e. sym (same_after n d limit total memory made a b la lb ne cut and_true _ _ without_a without_b x y e);
+          same = λ x y e. sym (same_after n d limit total memory made a b la lb ne cut and-true _ _ without_a without_b x y e);
         }
 
     spare_more : (x : ℕ) → cond (ltb x n) (d - get_or (row_of d (both_changed row_without d memory a b) x) 0 0) 0 ≡ cond (ltb x n) (d - get_or (row_of d memory x) 0 0) 0 + cond (eqb a x || eqb b x) 1 0
     spare_more =
-        spare_after n d limit total memory made a b la lb ne cut and_true _ _ without_a without_b
+        spare_after n d limit total memory made a b la lb ne cut and-true _ _ without_a without_b
         (λ x. cond (ltb x n) (d - get_or (row_of d memory x) 0 0) 0 + cond (eqb a x || eqb b x) 1 0)
         (rw (lt-ltb a n la, eq-eqb a a refl) (omega (arith, (made.rows a la).within, removable_a.1)))
         (rw (lt-ltb b n lb, or_right (eqb a b) (eqb b b) (eq-eqb b b refl)) (omega (arith, (made.rows b lb).within, removable_b.1)))
@@ -210,7 +210,7 @@ module _ (n d limit total : ℕ) (memory : List ℕ) (made : RowsMade n d limit 
           able = record { long = made.long; a_below = la; b_below = lb; apart = ne; able_a = removable_a; able_b = removable_b };
           graph = λ i. record { size = n; linked = λ x y. linked_less x y i };
           ledger = λ i. record { limit = limit; barred = λ _ _. false; spare = λ x. spare_more x i; room = room_more limit total _ one_fewer made.within i };
-          made = made_after n d limit total memory made a b la lb ne cut and_true _ _ without_a without_b (total - 1)
+          made = made_after n d limit total memory made a b la lb ne cut and-true _ _ without_a without_b (total - 1)
               (omega (arith, one_fewer)) (omega (arith, made.within));
         }
       where
