@@ -9,7 +9,7 @@ pub loop-a-preserved : goal.loop-a-preserved
 loop-a-preserved g c = λ made simple.
     let before = g.R.Ranking.before c.args.ranking.now in
     let graph = g.L.Links.graph c.args.links.now in
-    each_more (match_free before graph) graph c.loop-a.a (c.loop-a.invariant made simple) (matches graph simple before c.loop-a.a (c.match-free.ensures made simple))
+    each_more (match_free before graph) graph c.loop-a.a (c.loop-a.invariant made simple) (matches graph simple before c.loop-a.a (c.match_free.ensures made simple))
 
 pub returns : goal.returns
 returns g c = λ made simple.

@@ -9,4 +9,4 @@ returns g c = λ made simple.
     let before = g.R.Ranking.before c.args.ranking.now in
     let graph = g.L.Links.graph c.args.links.now in
     changes_then graph (each (match_free before graph) (up_to c.args.size [])) (each (improve before c.args.threshold graph) (up_to c.args.size []))
-    (c.match-all.ensures made simple) (c.improve-all.ensures made simple)
+    (c.match_all.ensures made simple) (c.improve_all.ensures made simple)

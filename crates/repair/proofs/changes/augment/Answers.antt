@@ -1,9 +1,9 @@
 use Rattle.repair.proofs.Taking.{augmented_none, augmented_some}
 use Rattle.repair.proofs.changes.augment.Goals as goal
 
-pub returns-in-default : goal.returns-in-default
-returns-in-default g c = λ made simple free agrees matching.
-    augmented_none (g.R.Ranking.before c.args.ranking.now) (g.L.Links.graph c.args.links.now) simple c.args.a c.args.tables.now free agrees matching (c.in-default.ensures made simple agrees)
+pub returns-in_default : goal.returns-in_default
+returns-in_default g c = λ made simple free agrees matching.
+    augmented_none (g.R.Ranking.before c.args.ranking.now) (g.L.Links.graph c.args.links.now) simple c.args.a c.args.tables.now free agrees matching (c.in_default.ensures made simple agrees)
 
 pub returns : goal.returns
 returns g c = λ made simple free agrees matching.

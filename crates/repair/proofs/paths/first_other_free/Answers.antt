@@ -18,4 +18,4 @@ loop-z-preserved g c =
     ]
 
 pub returns : goal.returns
-returns g c = first_other c.args.tables.now c.args.y c.args.besides (g.R.Ranking.before c.args.ranking.now) c.loop-z.from c.loop-z.best c.loop-z.invariant c.in-default.ensures.value
+returns g c = first_other c.args.tables.now c.args.y c.args.besides (g.R.Ranking.before c.args.ranking.now) c.loop-z.from c.loop-z.best c.loop-z.invariant c.in_default.ensures.value

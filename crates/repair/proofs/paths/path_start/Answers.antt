@@ -28,4 +28,4 @@ pub returns : goal.returns
 returns g c = λ made simple agrees.
     let graph = g.L.Links.graph c.args.links.now in
     walk_ends (g.R.Ranking.before c.args.ranking.now c.args.a) (graph.linked c.args.a) (λ x. any_below graph.size (ends_path graph (partners_of c.args.tables.now) c.args.a (partners_of c.args.tables.now x)))
-    c.loop-x.from graph.size c.loop-x.best (c.loop-x.invariant made simple agrees) (c.in-default.ensures made) (past_size graph simple c.args.a)
+    c.loop-x.from graph.size c.loop-x.best (c.loop-x.invariant made simple agrees) (c.in_default.ensures made) (past_size graph simple c.args.a)
