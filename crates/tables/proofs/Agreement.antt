@@ -1,16 +1,16 @@
 -- What the public changes come to.
-use Rattle.std.proofs.Common.{◌≡◌, ℕ, ◌<◌, ◌≤◌, Bool, true, false, cond, not, ◌&&◌, eqb, is_some, Some, None, Option, sym, refl, ap, ◌∙◌, subst, ap₂, inl, inr, arith}
+use Rattle.std.proofs.Common.{◌≡◌, ℕ, ◌<◌, ◌≤◌, Bool, true, false, cond, not, ◌&&◌, eqb, is_some, Some, None, Option, sym, refl, ap, ◌∙◌, subst, inl, inr, arith}
 use mathlib.Core.Path.{fun_ext}
 use Rattle.std.proofs.lemmas.Bool.{cases_lt, cases_eq, eq-eqb, ne_eqb, cond-false}
-use Rattle.graph.specs.Graph.{Graph, Simple, count}
+use Rattle.graph.specs.Graph.{Graph, Simple}
 use Rattle.graph.specs.Matching.{Partners}
-use Rattle.graph.specs.Pairs.{has_partner, is_free}
+use Rattle.graph.specs.Pairs.{is_free}
 use Rattle.graph.proofs.Paths.{free_taken}
 use Rattle.tables.specs.declared.Tables.{Tables}
 use Rattle.tables.specs.Views.{partners_of, Tracks, Agrees}
-use Rattle.tables.specs.Steps.{stepped, Stepped, PartnerWritten}
+use Rattle.tables.specs.Steps.{Stepped, PartnerWritten}
 use Rattle.tables.specs.Changes.{relinked, Relinking, with_partner, PartnerSet, Pairing, Parting}
-use Rattle.tables.proofs.Tracks.{put_count, told_track, relinked_track}
+use Rattle.tables.proofs.Tracks.{told_track, relinked_track}
 
 -- ---- links
 
@@ -30,16 +30,14 @@ relinking on a b {s} {u} {t} first second =
             (relinked_track on g simple (is_free (partners_of s)) a b in-a in_b apart was first
             (subst (λ (p : Partners). Stepped on (eqb b) (λ y. eqb b y && is_free p a) a u t) kept second) k.tracks);
         beyond = λ x h. ap (λ (p : Partners). p x) same ∙ k.beyond x (subst (λ (n : ℕ). n ≤ x) (size_kept on g a b) h);
-        matched = second.matched ∙ first.matched ∙ k.matched
-            ∙ ap₂ (λ (n : ℕ) (p : Partners). count n (has_partner p)) (sym (size_kept on g a b)) (sym same);
       };
     }
 
 -- ---- partners
 
--- what is asked of a partner is answered anew for a only
-changed : (ask : Option ℕ → Bool) (a : ℕ) (o : Option ℕ) (p : Partners) (z : ℕ) → cond (eqb a z) (ask o) (ask (p z)) ≡ ask (with_partner a o p z)
-changed ask a o p z = elim (cases_eq a z)
+-- only a is another than before
+free_changed : (a : ℕ) (o : Option ℕ) (p : Partners) (z : ℕ) → cond (eqb a z) (not (is_some o)) (is_free p z) ≡ is_free (with_partner a o p) z
+free_changed a o p z = elim (cases_eq a z)
     [ inl e ↦ rw (eq-eqb a z e, eq-eqb z a (sym e)) | inr n ↦ rw (ne_eqb a z n, ne_eqb z a (λ e. n (sym e))) ]
 
 written_track : {g : Graph} {free : ℕ → Bool} {a : ℕ} {o : Option ℕ} {s t : Tables} → PartnerWritten a o s t → Tracks g free s → Tracks g free t
@@ -61,12 +59,9 @@ partner_set g simple a o on is {s} {u} {t} w h =
       partners = same;
       agrees = λ inside was k. record {
         tracks = subst (λ (f : ℕ → Bool). Tracks g f t)
-            (fun_ext (λ z. ap (λ (c : Bool). cond (eqb a z) c (is_free (partners_of s) z)) is ∙ changed (λ q. not (is_some q)) a o (partners_of s) z ∙ ap (λ (p : Partners). is_free p z) (sym same)))
+            (fun_ext (λ z. ap (λ (c : Bool). cond (eqb a z) c (is_free (partners_of s) z)) is ∙ free_changed a o (partners_of s) z ∙ ap (λ (p : Partners). is_free p z) (sym same)))
             (told_track g simple (is_free (partners_of s)) on a (flip _ _ was ∙ ap not (sym is)) h (written_track w k.tracks));
         beyond = λ x past. ap (λ (p : Partners). p x) same ∙ cond-false (eqb x a) o (partners_of s x) (ne_eqb x a (λ e. omega arith)) ∙ k.beyond x past;
-        matched = h.matched ∙ w.matched ∙ ap (stepped (is_some o)) k.matched
-            ∙ sym (put_count g.size (has_partner (partners_of s)) (is_some o) a simple.small inside (flip _ _ refl ∙ ap not was))
-            ∙ ap (count g.size) (fun_ext (λ z. changed is_some a o (partners_of s) z ∙ ap (λ (p : Partners). has_partner p z) (sym same)));
       };
     }
 

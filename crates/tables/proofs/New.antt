@@ -1,5 +1,5 @@
 -- Tables in which nothing is recorded.
-use Rattle.std.proofs.Common.{◌≡◌, ℕ, ◌/◌, ◌%◌, false, get_or, replicate, is_some, sym, refl, ap, ◌∙◌, ⊎_elim, arith}
+use Rattle.std.proofs.Common.{◌≡◌, ℕ, ◌/◌, ◌%◌, false, get_or, replicate, sym, refl, ap, ◌∙◌, ⊎_elim, arith}
 use Rattle.std.proofs.lemmas.List.{get_or-replicate, get_or_past, length-replicate}
 use Rattle.std.proofs.lemmas.Bool.{cases_lt}
 use Rattle.graph.proofs.Counts.{count_none}
@@ -28,7 +28,7 @@ module _ (m n : ℕ) where
       (λ h. ap (λ (s : LoadSet). has s b) (get_or_past (replicate n zeros) a empty (omega (arith, length-replicate n zeros))) ∙ bit_zero (b % 64))
       (cases_lt a n)
 
-  pub new_tables : New (record { records = replicate n blank; free = replicate n (record { words = replicate m 0 }); matched = 0 })
+  pub new_tables : New (record { records = replicate n blank; free = replicate n (record { words = replicate m 0 }) })
   unfolding zeros
   new_tables = record {
     partners = λ i a. (get_all n a blank i).partner;
@@ -39,6 +39,5 @@ module _ (m n : ℕ) where
         counts = λ a. ap (λ (r : Record). r.free_links) (get_all n a blank) ∙ sym (count_none k (λ _. false) (λ _ _. refl));
       };
       beyond = λ a _. ap (λ (r : Record). r.partner) (get_all n a blank);
-      matched = sym (count_none k _ (λ a _. ap (λ (r : Record). is_some r.partner) (get_all n a blank)));
     };
   }

@@ -25,7 +25,6 @@ module _ (on : Bool) (a b : ℕ) (free : Bool) (s u : Tables) (count : Stepped o
     degrees = λ y. tell.degrees y ∙ count.degrees y;
     counts = λ y. tell.counts y ∙ ap (λ (n : ℕ). cond (eqb a y) (stepped on n) n) (count.counts y);
     sets = λ y z. tell.sets y z ∙ ap (cond (eqb a y && eqb b z) on) (count.sets y z);
-    matched = tell.matched ∙ count.matched;
   })
 
   pub counted_only : free ≡ false → Stepped on (eqb a) (λ y. eqb a y && free) b s u
@@ -58,7 +57,6 @@ module _ (on : Bool) where
     degrees = λ y. here.degrees y ∙ before.degrees y;
     counts = λ y. here.counts y ∙ ap (λ (n : ℕ). cond (eqb x y) (stepped on n) n) (before.counts y) ∙ step_one (free_count_of s y) (test y && ltb y from) (eqb x y) (fresh test from x next.past y);
     sets = λ y z. here.sets y z ∙ ap (cond (eqb x y && eqb a z) on) (before.sets y z) ∙ put_one (free_linked s y z) (test y && ltb y from) (eqb x y) (eqb a z);
-    matched = here.matched ∙ before.matched;
   })
 
 -- where none is left, all that pass the test have been told

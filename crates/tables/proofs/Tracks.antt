@@ -12,7 +12,7 @@ use Rattle.tables.proofs.Steps.{and_on}
 
 -- ---- counts of a test that is put to `on` at one number
 
-pub put_count : (n : ℕ) (p : ℕ → Bool) (on : Bool) (b : ℕ) → n ≤ 256 → b < n → p b ≡ not on → count n (λ z. cond (eqb b z) on (p z)) ≡ stepped on (count n p)
+put_count : (n : ℕ) (p : ℕ → Bool) (on : Bool) (b : ℕ) → n ≤ 256 → b < n → p b ≡ not on → count n (λ z. cond (eqb b z) on (p z)) ≡ stepped on (count n p)
 put_count n p true b small inside was =
     let more = count_more n p (λ z. cond (eqb b z) true (p z)) b inside was (cond-true (eqb b b) true (p b) (eq-eqb b b refl))
     (λ k _ ne. cond-false (eqb b k) true (p k) (ne_eqb b k (λ e. ne (sym e)))) in

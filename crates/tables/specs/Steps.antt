@@ -1,7 +1,7 @@
 -- The small steps by which the tables are changed.
-use Rattle.std.specs.Prelude.{◌≡◌, ℕ, ◌+◌, ◌-◌, min, Bool, true, false, cond, ◌&&◌, is_some, Option, ◌==◌}
+use Rattle.std.specs.Prelude.{◌≡◌, ℕ, ◌+◌, ◌-◌, min, Bool, true, false, cond, ◌&&◌, Option, ◌==◌}
 use Rattle.tables.specs.declared.Tables.{Tables}
-use Rattle.tables.specs.Views.{partners_of, links_of, free_count_of, free_linked, matched_of}
+use Rattle.tables.specs.Views.{partners_of, links_of, free_count_of, free_linked}
 
 -- a number of 16 bits, one up or down where it can
 abbrev pub stepped : Bool → ℕ → ℕ
@@ -15,12 +15,10 @@ pub record Stepped (on : Bool) (linked told : ℕ → Bool) (b : ℕ) (s t : Tab
   pub degrees : (y : ℕ) → links_of t y ≡ cond (linked y) (stepped on (links_of s y)) (links_of s y)
   pub counts : (y : ℕ) → free_count_of t y ≡ cond (told y) (stepped on (free_count_of s y)) (free_count_of s y)
   pub sets : (y z : ℕ) → free_linked t y z ≡ cond (told y && b == z) on (free_linked s y z)
-  pub matched : matched_of t ≡ matched_of s
 
--- the partner of a is written, and the loads with a partner are one more or one fewer; nothing else changes
+-- the partner of a is written, and nothing else
 pub record PartnerWritten (a : ℕ) (o : Option ℕ) (s t : Tables) : Type 0 where
   pub partners : (y : ℕ) → partners_of t y ≡ cond (y == a) o (partners_of s y)
   pub degrees : (y : ℕ) → links_of t y ≡ links_of s y
   pub counts : (y : ℕ) → free_count_of t y ≡ free_count_of s y
   pub sets : (y z : ℕ) → free_linked t y z ≡ free_linked s y z
-  pub matched : matched_of t ≡ stepped (is_some o) (matched_of s)

@@ -1,5 +1,5 @@
 -- What the tables say of each load, and when they agree with a graph.
-use Rattle.std.specs.Prelude.{◌≡◌, ℕ, ◌/◌, ◌%◌, ◌≤◌, Bool, ◌&&◌, [], None, slice_index, slice_index_or}
+use Rattle.std.specs.Prelude.{◌≡◌, ℕ, ◌/◌, ◌%◌, ◌≤◌, Bool, ◌&&◌, [], length, None, slice_index, slice_index_or}
 use Rattle.graph.specs.Graph.{Graph, count, degree, edgeless}
 use Rattle.graph.specs.Matching.{Partners}
 use Rattle.graph.specs.Pairs.{has_partner, is_free}
@@ -39,7 +39,7 @@ free_linked t a b = has (slice_index_or t.free a empty) b
 
 -- how many loads are recorded as having a partner
 abbrev pub matched_of : Tables → ℕ
-matched_of t = t.matched
+matched_of t = count (length t.records) (has_partner (partners_of t))
 
 -- links and free links are those of the graph g, where `free` says which loads are free
 pub record Tracks (g : Graph) (free : ℕ → Bool) (t : Tables) : Type 0 where
@@ -47,12 +47,10 @@ pub record Tracks (g : Graph) (free : ℕ → Bool) (t : Tables) : Type 0 where
   pub sets : (a b : ℕ) → free_linked t a b ≡ (g.linked a b && free b)
   pub counts : (a : ℕ) → free_count_of t a ≡ count g.size (λ b. g.linked a b && free b)
 
--- the tables agree with the graph g: a load is free if they record no partner of it, past the size none has one, and
--- those that have one are counted
+-- the tables agree with the graph g: a load is free if they record no partner of it, and past the size none has one
 pub record Agrees (g : Graph) (t : Tables) : Type 0 where
   pub tracks : Tracks g (is_free (partners_of t)) t
   pub beyond : (a : ℕ) → g.size ≤ a → partners_of t a ≡ None
-  pub matched : matched_of t ≡ count g.size (has_partner (partners_of t))
 
 -- tables of loads that are free and have no links, however many there are
 pub record New (t : Tables) : Type 0 where

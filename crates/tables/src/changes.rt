@@ -89,11 +89,9 @@ impl Tables {
         }
     }
 
-    // a gets this partner, or loses the one that it had, and is counted or no longer.
     fn write_partner(&mut self, a: u8, partner: Option<u8>)
         ensures { PartnerWritten a partner self.old self.new }
     {
-        self.matched = step(self.matched, partner.is_some());
         self.records[a as usize].partner = partner;
     }
 

@@ -1,5 +1,4 @@
-// The tables of a board: the partner and the degree of each load, which of the loads linked to it are free, and how many
-// loads have a partner.
+// The tables of a board: the partner and the degree of each load, and which of the loads linked to it are free.
 #![tactic(auto)]
 ghost use Rattle.std.specs.Prelude.{◌≡◌, ◌<◌, IfSome};
 ghost use Rattle.graph.specs.Graph.{Next};
@@ -29,8 +28,6 @@ pub struct Tables {
     records: [Record; 256],
     // for each load, the free loads that it is linked to
     free: [LoadSet; 256],
-    // how many loads have a partner
-    matched: u16,
 }
 
 // A load that is free and has no links.
@@ -48,7 +45,6 @@ impl Tables {
         Tables {
             records: [BLANK; 256],
             free: [LoadSet { words: [0; 4] }; 256],
-            matched: 0,
         }
     }
 
@@ -76,11 +72,17 @@ impl Tables {
         self.record(a).partner.is_none()
     }
 
-    // The number of loads that have a partner.
+    // The number of loads that have a partner. Looks at every record.
     pub fn matched(&self) -> usize
         ensures { result ≡ matched_of self.now }
     {
-        self.matched as usize
+        let mut matched = 0;
+        for record in &self.records {
+            if record.partner.is_some() {
+                matched += 1;
+            }
+        }
+        matched
     }
 
     // The number of links of a load.
