@@ -5,7 +5,7 @@ use Rattle.tables.proofs.Firsts.{past_size}
 use Rattle.tables.proofs.Steps.{in_range}
 use Rattle.repair.proofs.Walks.{walk_takes, walk_skips, walk_ends}
 use Rattle.repair.proofs.changes.light_start.Goals as goal
-use Rattle.repair.proofs.changes.light_start.Goals.{then-has-light-partner, else-has-light-partner}
+use Rattle.repair.proofs.changes.light_start.Goals.{then-has_light_partner, else-has_light_partner}
 
 pub returns-then-x-from : goal.returns-then-x-from
 returns-then-x-from g c = λ made simple agrees.
@@ -17,11 +17,11 @@ loop-x-preserved g c = λ made simple agrees.
     let graph = g.L.Links.graph c.args.links.now in
     let p = partners_of c.args.tables.now in
     let light = c.has-light-partner.ensures graph agrees in
-    elim c.if-has-light-partner.branch [
-      | then-has-light-partner w ↦
-          walk_takes before (graph.linked c.args.a) (λ x. light_partner graph c.args.threshold (p x)) c.loop-x.from c.in-Some.x c.loop-x.best (c.in-Some.ensures made) (c.loop-x.invariant made simple agrees) _ (sym light ∙ w.if-has-light-partner.true) _ w.earlier.ensures w.best-is
-      | else-has-light-partner w ↦
-          walk_skips before (graph.linked c.args.a) (λ x. light_partner graph c.args.threshold (p x)) c.loop-x.from c.in-Some.x c.loop-x.best (c.in-Some.ensures made) (c.loop-x.invariant made simple agrees) _ (sym light ∙ w.if-has-light-partner.false) w.best-is
+    elim c.if-has_light_partner.branch [
+      | then-has_light_partner w ↦
+          walk_takes before (graph.linked c.args.a) (λ x. light_partner graph c.args.threshold (p x)) c.loop-x.from c.in-Some.x c.loop-x.best (c.in-Some.ensures made) (c.loop-x.invariant made simple agrees) _ (sym light ∙ w.if-has_light_partner.true) _ w.earlier.ensures w.best-is
+      | else-has_light_partner w ↦
+          walk_skips before (graph.linked c.args.a) (λ x. light_partner graph c.args.threshold (p x)) c.loop-x.from c.in-Some.x c.loop-x.best (c.in-Some.ensures made) (c.loop-x.invariant made simple agrees) _ (sym light ∙ w.if-has_light_partner.false) w.best-is
     ]
 
 pub returns : goal.returns

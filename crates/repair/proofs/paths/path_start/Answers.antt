@@ -5,7 +5,7 @@ use Rattle.tables.proofs.Firsts.{past_size}
 use Rattle.tables.proofs.Steps.{in_range}
 use Rattle.repair.proofs.Walks.{walk_takes, walk_skips, walk_ends}
 use Rattle.repair.proofs.paths.path_start.Goals as goal
-use Rattle.repair.proofs.paths.path_start.Goals.{then-goes-over, else-goes-over}
+use Rattle.repair.proofs.paths.path_start.Goals.{then-goes_over, else-goes_over}
 
 pub returns-then-x-from : goal.returns-then-x-from
 returns-then-x-from g c = λ made simple agrees.
@@ -17,11 +17,11 @@ loop-x-preserved g c = λ made simple agrees.
     let graph = g.L.Links.graph c.args.links.now in
     let p = partners_of c.args.tables.now in
     let over = c.goes-over.ensures graph simple agrees in
-    elim c.if-goes-over.branch [
-      | then-goes-over w ↦
-          walk_takes before (graph.linked c.args.a) (λ x. any_below graph.size (ends_path graph p c.args.a (p x))) c.loop-x.from c.in-Some.x c.loop-x.best (c.in-Some.ensures made) (c.loop-x.invariant made simple agrees) _ (sym over ∙ w.if-goes-over.true) _ w.earlier.ensures w.best-is
-      | else-goes-over w ↦
-          walk_skips before (graph.linked c.args.a) (λ x. any_below graph.size (ends_path graph p c.args.a (p x))) c.loop-x.from c.in-Some.x c.loop-x.best (c.in-Some.ensures made) (c.loop-x.invariant made simple agrees) _ (sym over ∙ w.if-goes-over.false) w.best-is
+    elim c.if-goes_over.branch [
+      | then-goes_over w ↦
+          walk_takes before (graph.linked c.args.a) (λ x. any_below graph.size (ends_path graph p c.args.a (p x))) c.loop-x.from c.in-Some.x c.loop-x.best (c.in-Some.ensures made) (c.loop-x.invariant made simple agrees) _ (sym over ∙ w.if-goes_over.true) _ w.earlier.ensures w.best-is
+      | else-goes_over w ↦
+          walk_skips before (graph.linked c.args.a) (λ x. any_below graph.size (ends_path graph p c.args.a (p x))) c.loop-x.from c.in-Some.x c.loop-x.best (c.in-Some.ensures made) (c.loop-x.invariant made simple agrees) _ (sym over ∙ w.if-goes_over.false) w.best-is
     ]
 
 pub returns : goal.returns
