@@ -4,3 +4,4 @@ pub mod Steps
 pub mod Tracks
 pub mod Agreement
 pub mod Firsts
+pub mod Matched

@@ -1,5 +1,5 @@
 -- What the tables say of each load, and when they agree with a graph.
-use Rattle.std.specs.Prelude.{◌≡◌, ℕ, ◌/◌, ◌%◌, ◌≤◌, Bool, ◌&&◌, [], length, None, slice_index, slice_index_or}
+use Rattle.std.specs.Prelude.{◌≡◌, ℕ, ◌/◌, ◌%◌, ◌≤◌, Bool, ◌&&◌, [], None, slice_index, slice_index_or}
 use Rattle.graph.specs.Graph.{Graph, count, degree, edgeless}
 use Rattle.graph.specs.Matching.{Partners}
 use Rattle.graph.specs.Pairs.{has_partner, is_free}
@@ -38,8 +38,8 @@ abbrev pub free_linked : Tables → ℕ → ℕ → Bool
 free_linked t a b = has (slice_index_or t.free a empty) b
 
 -- how many loads are recorded as having a partner
-abbrev pub matched_of : Tables → ℕ
-matched_of t = count (length t.records) (has_partner (partners_of t))
+unfoldable pub matched_of : Tables → ℕ
+matched_of t = count 256 (has_partner (partners_of t))
 
 -- links and free links are those of the graph g, where `free` says which loads are free
 pub record Tracks (g : Graph) (free : ℕ → Bool) (t : Tables) : Type 0 where
