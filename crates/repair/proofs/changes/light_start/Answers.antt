@@ -16,7 +16,7 @@ loop-x-preserved g c = λ made simple agrees.
     let before = g.R.Ranking.before c.args.ranking.now c.args.a in
     let graph = g.L.Links.graph c.args.links.now in
     let p = partners_of c.args.tables.now in
-    let light = c.has-light-partner.ensures graph agrees in
+    let light = c.has_light_partner.ensures graph agrees in
     elim c.if-has_light_partner.branch [
       | then-has_light_partner w ↦
           walk_takes before (graph.linked c.args.a) (λ x. light_partner graph c.args.threshold (p x)) c.loop-x.from c.in-Some.x c.loop-x.best (c.in-Some.ensures made) (c.loop-x.invariant made simple agrees) _ (sym light ∙ w.if-has_light_partner.true) _ w.earlier.ensures w.best-is

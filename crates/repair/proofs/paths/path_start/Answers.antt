@@ -16,7 +16,7 @@ loop-x-preserved g c = λ made simple agrees.
     let before = g.R.Ranking.before c.args.ranking.now c.args.a in
     let graph = g.L.Links.graph c.args.links.now in
     let p = partners_of c.args.tables.now in
-    let over = c.goes-over.ensures graph simple agrees in
+    let over = c.goes_over.ensures graph simple agrees in
     elim c.if-goes_over.branch [
       | then-goes_over w ↦
           walk_takes before (graph.linked c.args.a) (λ x. any_below graph.size (ends_path graph p c.args.a (p x))) c.loop-x.from c.in-Some.x c.loop-x.best (c.in-Some.ensures made) (c.loop-x.invariant made simple agrees) _ (sym over ∙ w.if-goes_over.true) _ w.earlier.ensures w.best-is
