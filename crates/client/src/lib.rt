@@ -30,8 +30,8 @@ pub fn on_matrix() -> Result<bool, Refused>
 pub fn on_rows() -> Result<bool, Refused>
     ensures { result ≡ Ok true }
 {
-    let mut numbers = [0; 9];
-    let mut book = SortedRows::new(3, 2, 3, &mut numbers);
+    let mut rows = [0; 6];
+    let mut book = SortedRows::new(3, 1, 3, &mut rows);
     add_and_ask(&mut book, 0, 1)
 }
 

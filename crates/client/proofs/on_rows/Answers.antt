@@ -7,6 +7,6 @@ use Rattle.client.proofs.on_rows.Goals as goal
 pub returns : goal.returns
 returns c =
     asked _ c.add_and_ask.result
-    (reason_none book_graph book_made book_ledger c.new-book.result (edgeless 3) (fresh 3 2 3) 0 1
+    (reason_none book_graph book_made book_ledger c.new-book.result (edgeless 3) (fresh 3 1 3) 0 1
     (record { graph_is = c.new-book.ensures.making.0.graph; ledger_is = c.new-book.ensures.making.0.ledger; still_made = c.new-book.ensures.made }) refl)
     (c.add_and_ask.ensures.answer c.new-book.ensures.made)
