@@ -7,6 +7,6 @@ returns g c = record {
   value = λ made.
       let same = c.limit.ensures.value made in
       let low : c.limit.result ≤ 32640 = omega (arith, (c.limit.ensures.bounded made).limit_bound) in
-      c.threshold-of.ensures low ∙ ap threshold same;
+      c.threshold_of.ensures low ∙ ap threshold same;
   bounded = c.limit.ensures.bounded;
 }

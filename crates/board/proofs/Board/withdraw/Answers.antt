@@ -8,18 +8,18 @@ returns-in-Some g c = record {
   ranking_is = refl;
   leads = λ stands.
       let s = c.args.self.now in
-      withdrawn_partner g.B.Links.graph g.B.Links.made g.B.Book.ledger g.R.Ranking.before s stands c.args.a (c.in-ok-check-load.ensures stands.book_made).0
-      (record { book = c.remove-links.new.book; ranking = s.ranking; tables = c.repair-one.new.tables }) c.in-Some.b (sym c.in-Some.ensures)
-      c.remove-links.new.tables c.part.new.self c.remove-links.ensures c.part.ensures.changed
-      c.threshold-threshold.result c.threshold-threshold.ensures.value c.threshold-threshold.ensures.bounded c.repair-one.ensures;
+      withdrawn_partner g.B.Links.graph g.B.Links.made g.B.Book.ledger g.R.Ranking.before s stands c.args.a (c.in_ok-check_load.ensures stands.book_made).0
+      (record { book = c.remove_links.new.book; ranking = s.ranking; tables = c.repair_one.new.tables }) c.in-Some.b (sym c.in-Some.ensures)
+      c.remove_links.new.tables c.part.new.self c.remove_links.ensures c.part.ensures.changed
+      c.threshold-threshold.result c.threshold-threshold.ensures.value c.threshold-threshold.ensures.bounded c.repair_one.ensures;
 }
 
-pub returns-in-default : goal.returns-in-default
-returns-in-default g c = record {
+pub returns-in_default : goal.returns-in_default
+returns-in_default g c = record {
   kept = tt;
   ranking_is = refl;
   leads = λ stands.
       let s = c.args.self.now in
-      withdrawn_free g.B.Links.graph g.B.Links.made g.B.Book.ledger g.R.Ranking.before s stands c.args.a (c.in-ok-check-load.ensures stands.book_made).0
-      (record { book = c.remove-links.new.book; ranking = s.ranking; tables = c.remove-links.new.tables }) (sym c.in-default.ensures) c.remove-links.ensures;
+      withdrawn_free g.B.Links.graph g.B.Links.made g.B.Book.ledger g.R.Ranking.before s stands c.args.a (c.in_ok-check_load.ensures stands.book_made).0
+      (record { book = c.remove_links.new.book; ranking = s.ranking; tables = c.remove_links.new.tables }) (sym c.in_default.ensures) c.remove_links.ensures;
 }

@@ -11,6 +11,6 @@ pub returns-else-x-b : goal.returns-else-x-b
 returns-else-x-b g c = λ made simple.
     parts_other (g.L.Links.graph c.args.links.now) c.args.a c.args.b c.args.tables.now c.in-Some.x (sym c.in-Some.ensures) c.if-x-b.false
 
-pub returns-in-default : goal.returns-in-default
-returns-in-default g c = λ made simple.
-    parts_none (g.L.Links.graph c.args.links.now) c.args.a c.args.b c.args.tables.now (sym c.in-default.ensures)
+pub returns-in_default : goal.returns-in_default
+returns-in_default g c = λ made simple.
+    parts_none (g.L.Links.graph c.args.links.now) c.args.a c.args.b c.args.tables.now (sym c.in_default.ensures)

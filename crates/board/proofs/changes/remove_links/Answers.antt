@@ -14,15 +14,15 @@ returns-then-b-from g c = λ made simple below agrees.
     (now_simple graph g.B.Links.made ledger (graph book) simple (ledger book) c.args.a (partners_of c.args.tables.now) c.loop-b.from c.loop-b.book c.loop-b.tables so_far)
     (c.in-Some.ensures so_far.1.book.still_made) (⊎_elim inl (λ p. inr p.1) c.then-b-from.either))
 
-pub returns-in-default-remove : goal.returns-in-default-remove
-returns-in-default-remove g c = λ made simple below agrees.
+pub returns-in_default-remove : goal.returns-in_default-remove
+returns-in_default-remove g c = λ made simple below agrees.
     let graph = g.B.Links.graph in
     let ledger = g.B.Book.ledger in
     let book = c.args.book.now in
     let so_far = c.loop-b.invariant made simple below agrees in
     let still = so_far.1.book.still_made in
     absurd (never_refused graph g.B.Links.made ledger (graph book) simple (ledger book) c.args.a (partners_of c.args.tables.now) c.loop-b.from c.loop-b.book c.loop-b.tables so_far
-    c.in-Some.b (c.in-Some.ensures still) _ (c.in-default-remove.ensures.answers still))
+    c.in-Some.b (c.in-Some.ensures still) _ (c.in_default-remove.ensures.answers still))
 
 pub loop-b-preserved : goal.loop-b-preserved
 loop-b-preserved g c = λ made simple below agrees.
@@ -41,4 +41,4 @@ returns g c = λ made simple below agrees.
     let book = c.args.book.now in
     let so_far = c.loop-b.invariant made simple below agrees in
     remove_all graph g.B.Links.made ledger (graph book) simple (ledger book) c.args.a (partners_of c.args.tables.now) c.loop-b.from c.loop-b.book c.loop-b.tables so_far
-    (c.in-default.ensures so_far.1.book.still_made)
+    (c.in_default.ensures so_far.1.book.still_made)

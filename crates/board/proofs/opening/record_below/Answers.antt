@@ -18,4 +18,4 @@ returns-then-b-from g c = λ made simple inside free.
 
 pub returns : goal.returns
 returns g c = λ made simple inside free.
-    record_row (g.L.Links.graph c.args.links.now) simple c.args.a c.loop-b.from (λ j low high. c.in-default.ensures made j low) (c.loop-b.invariant.1 made simple inside free)
+    record_row (g.L.Links.graph c.args.links.now) simple c.args.a c.loop-b.from (λ j low high. c.in_default.ensures made j low) (c.loop-b.invariant.1 made simple inside free)

@@ -6,7 +6,7 @@ pub loop-a-init : goal.loop-a-init
 loop-a-init g c = λ made simple _. record_none (g.L.Links.graph c.args.links.now) simple c.new-tables.ensures
 
 pub loop-a-preserved : goal.loop-a-preserved
-loop-a-preserved g c = λ made simple within. c.record-below.ensures made simple (omega (arith, within, c.loop-a-test.true)) (c.loop-a.invariant made simple within)
+loop-a-preserved g c = λ made simple within. c.record_below.ensures made simple (omega (arith, within, c.loop-a-test.true)) (c.loop-a.invariant made simple within)
 
 pub returns : goal.returns
 returns g c = λ made simple e.
