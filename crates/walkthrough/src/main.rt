@@ -1,57 +1,13 @@
-// Shows each holder of links, the audit, the rankings and a board at work, and says what each call answers.
+// Shows each holder of links, the audit and the rankings at work, and says what each call answers.
 #![tactic(auto)]
-use audit::{Verdict, audit};
 use books::bit_matrix::BitMatrix;
 use filter::ClassFilter;
-use links::{Book, Layer, Links, Refusal, Refused};
-use morning::play;
+use links::{Book, Links};
 use ranking::detour::{ByDetour, Place};
 use ranking::{ByNumber, Ranking};
 use rows::SortedRows;
 use std::io;
-
-mod morning;
-
-fn reason(refusal: Refusal) -> &'static str {
-    match refusal {
-        Refusal::SizeOutOfRange => "there are 1 to 256 loads",
-        Refusal::LimitOutOfRange => "the limit is out of its range",
-        Refusal::WrongLength => "the length is wrong",
-        Refusal::NoSuchLoad => "there is no such load",
-        Refusal::SameLoad => "both are the same load",
-        Refusal::AlreadyLinked => "they are linked already",
-        Refusal::NotLinked => "they are not linked",
-        Refusal::Barred => "the pair is barred",
-        Refusal::LoadFull => "a load has no spare left",
-        Refusal::BookFull => "the book has no room left",
-        Refusal::NoPartner => "the load has no partner",
-        Refusal::UnknownCommand => "no command begins so",
-        Refusal::CutShort => "the stream ends inside a command",
-        Refusal::OutputTooShort => "the output is too short",
-        Refusal::BadEntry(_) => "an entry breaks the order or its bounds",
-    }
-}
-
-fn layer_name(layer: Layer) -> &'static str {
-    match layer {
-        Layer::Stream => "stream",
-        Layer::Board => "board",
-        Layer::Book => "book",
-    }
-}
-
-// What a call answered, to the end of its line.
-fn answer(rt: &impl Print, granted: Result<(), Refused>) -> io::Result<()> {
-    match granted {
-        Ok(()) => println!(rt; ": ok"),
-        Err(refused) => {
-            let number = refused.refusal.number();
-            let why = reason(refused.refusal);
-            let layer = layer_name(refused.layer);
-            println!(rt; ": refused by the {layer} with {number}, {why}")
-        }
-    }
-}
+use telling::{NONE, answer, judge};
 
 fn add<B: Book>(rt: &impl Print, book: &mut B, a: usize, b: usize) -> io::Result<()> {
     print!(rt; "link {a} {b}")?;
@@ -76,30 +32,6 @@ fn list_links<L: Links>(rt: &impl Print, links: &L, n: usize) -> io::Result<()> 
     }
     Ok(())
 }
-
-fn judge<L: Links>(rt: &impl Print, links: &L, claims: &[u16]) -> io::Result<()> {
-    match audit(links, claims) {
-        Ok(Verdict::Sound) => println!(rt;
-            "  sound: no path of one or three links joins two free loads"
-        ),
-        Ok(Verdict::NotReturned(a)) => println!(rt;
-            "  fault: load {a} claims a partner that does not claim it back"
-        ),
-        Ok(Verdict::NotLinked(a)) => println!(rt;
-            "  fault: load {a} is not linked to the partner that it claims"
-        ),
-        Ok(Verdict::PathOfOne((a, b))) => println!(rt; "  fault: {a} and {b} are free, and linked"),
-        Ok(Verdict::PathOfThree((a, x, y, z))) => {
-            println!(rt;
-                "  fault: {a} and {z} are free, and the path {a} {x} {y} {z} would pair both"
-            )
-        }
-        Err(refused) => println!(rt; "  refused with {}", refused.refusal.number()),
-    }
-}
-
-// No partner.
-const NONE: u16 = 65535;
 
 fn six_loads(rt: &impl Print) -> io::Result<()> {
     println!(rt; "A bit matrix for six loads and at most six links.")?;
@@ -179,6 +111,5 @@ fn rankings(rt: &impl Print) -> io::Result<()> {
 fn main(rt: HostRuntime) -> io::Result<()> {
     six_loads(&rt)?;
     rows_and_filter(&rt)?;
-    rankings(&rt)?;
-    play(&rt)
+    rankings(&rt)
 }

@@ -1,10 +1,11 @@
-// A morning at an exchange, on a board.
-use crate::{NONE, answer, judge};
+// Plays a morning at an exchange on a board, and says what each call answers and who is paired after it.
+#![tactic(auto)]
 use board::Board;
 use books::bit_matrix::BitMatrix;
 use links::{Book, Refused};
 use ranking::{ByNumber, Ranking};
 use std::io;
+use telling::{NONE, answer, judge};
 
 #[derive(Clone, Copy)]
 enum Call {
@@ -79,18 +80,18 @@ fn claims<B: Book, R: Ranking>(board: &Board<B, R>) -> [u16; SIZE] {
     claims
 }
 
-pub fn play(rt: &impl Print) -> io::Result<()> {
+fn main(rt: HostRuntime) -> io::Result<()> {
     println!(rt;
         "A morning at an exchange: eight loads, at most nine links, the lower number first."
     )?;
     let mut words = [0; SIZE];
     let mut board = Board::open(BitMatrix::new(SIZE, 9, &mut words), ByNumber);
     for call in MORNING {
-        say(rt, call)?;
-        answer(rt, make(&mut board, call))?;
-        list_partners(rt, &board)?;
+        say(&rt, call)?;
+        answer(&rt, make(&mut board, call))?;
+        list_partners(&rt, &board)?;
     }
     println!(rt; "{} pairs are left.", board.pairs())?;
     println!(rt; "The audit of these pairs:")?;
-    judge(rt, board.book(), &claims(&board))
+    judge(&rt, board.book(), &claims(&board))
 }
