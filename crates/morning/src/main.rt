@@ -1,5 +1,6 @@
 // Plays a morning at an exchange on a board, and says what each call answers and who is paired after it.
 #![tactic(auto)]
+
 use board::Board;
 use books::bit_matrix::BitMatrix;
 use links::{Book, Refused};

@@ -1,5 +1,6 @@
 // What calls answer and what the audit finds, in words for people to read.
 #![tactic(auto)]
+
 use audit::{Verdict, audit};
 use links::{Layer, Links, Refusal, Refused};
 use std::io;

@@ -1,5 +1,6 @@
 // Shows each holder of links, the audit and the rankings at work, and says what each call answers.
 #![tactic(auto)]
+
 use books::bit_matrix::BitMatrix;
 use filter::ClassFilter;
 use links::{Book, Links};
