@@ -91,7 +91,7 @@ module _ (d : ℕ) (memory : List ℕ) (a : ℕ) (row : List ℕ) (long : length
           (cases_order x a)
 
 -- as the code does it: a change of the part of the memory that is row a
-pub row_changed : (change : Change) (d a b k : ℕ) (memory row : List ℕ) → k ≡ d + 1 → a * (d + 1) + (d + 1) ≤ length memory → length row ≡ length (take k (drop (a * (d + 1)) memory)) → (Able change (take k (drop (a * (d + 1)) memory)) b → row ≡ changed change (take k (drop (a * (d + 1)) memory)) b) → RowChanged change d a b memory (put_mid (a * (d + 1)) k memory row)
+pub row_changed : (change : Change) (d a b k : ℕ) (memory row : List ℕ) → k ≡ d + 1 → a * (d + 1) + (d + 1) ≤ length memory → length row ≡ length (take k (drop (a * (d + 1)) memory)) → (Able change (take k (drop (a * (d + 1)) memory)) b → row ≡ changed change (take k (drop (a * (d + 1)) memory)) b) → RowChanged (Able change) (changed change) d a b memory (put_mid (a * (d + 1)) k memory row)
 row_changed change d a b k memory row ek within same changes =
     record {
       row = λ _ able. written ∙ ap (with_row d memory a) (subst (λ (xs : List ℕ). Able change xs b → row ≡ changed change xs b) part changes able);
@@ -127,7 +127,7 @@ two_rows d memory a b r s ne lr ls wa wb =
     }
 
 -- one row changed after the other
-pub both_rows_changed : (change : Change) (n d a b : ℕ) (memory mid after : List ℕ) → a < n → b < n → RowChanged change d a b memory mid → RowChanged change d b a mid after → BothChanged change n d a b memory after
+pub both_rows_changed : (change : Change) (n d a b : ℕ) (memory mid after : List ℕ) → a < n → b < n → RowChanged (Able change) (changed change) d a b memory mid → RowChanged (Able change) (changed change) d b a mid after → BothChanged change n d a b memory after
 both_rows_changed change n d a b memory mid after la lb first second =
     record {
       rows = rows;

@@ -2,8 +2,8 @@
 #![tactic(auto)]
 
 ghost use Rattle.std.specs.Prelude.{◌≡◌, ◌+◌, ◌*◌, ◌≤◌, length};
-ghost use Rattle.row.specs.Row.{entries, place, Insertable, row_with, Removable, row_without};
-ghost use Rattle.row.specs.Memory.{loads_of_row, RowChanged, BothChanged};
+ghost use Rattle.row.specs.Row.{entries, place, Insertable, row_with, Removable, row_without, Able, changed};
+ghost use Rattle.row.specs.Memory.{loads_of_row, RowChanged};
 
 // What can be done with a load in a row.
 #[derive(Clone, Copy)]
@@ -87,8 +87,8 @@ fn remove(row: &mut [u16], b: u16)
 }
 
 // Puts b into row a, or takes it out, where that can be done.
-fn change_row(rows: &mut [u16], row_limit: u8, a: u16, b: u16, change: Change)
-    ensures { RowChanged change row_limit a b rows.old rows.new }
+pub fn change_row(rows: &mut [u16], row_limit: u8, a: u16, b: u16, change: Change)
+    ensures { RowChanged (Able change) (changed change) row_limit a b rows.old rows.new }
 {
     let width = row_limit as usize + 1;
     let start = a as usize * width;
@@ -98,15 +98,5 @@ fn change_row(rows: &mut [u16], row_limit: u8, a: u16, b: u16, change: Change)
             Change::Insert => insert(row, b),
             Change::Remove => remove(row, b),
         }
-    }
-}
-
-// Puts each of two loads into the row of the other, or takes it out. There is a row for each load below `size`.
-pub fn change_both(rows: &mut [u16], size: u16, row_limit: u8, a: usize, b: usize, change: Change)
-    ensures { BothChanged change size row_limit a b rows.old rows.new }
-{
-    if a < size as usize && b < size as usize {
-        change_row(rows, row_limit, a as u16, b as u16, change);
-        change_row(rows, row_limit, b as u16, a as u16, change);
     }
 }

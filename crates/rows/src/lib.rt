@@ -5,11 +5,12 @@ ghost use Rattle.rise.specs.Rise.{Rises, FirstUnordered};
 ghost use Rattle.links.specs.Books.{Adds, Removes};
 ghost use Rattle.links.specs.Refusals.{Answers};
 ghost use Rattle.row.specs.Row.{row_with, row_without};
+ghost use Rattle.row.specs.Memory.{BothChanged};
 ghost use Rattle.rows.specs.Rows.{Whole, book_row, book_graph, book_ledger, book_made, checking, Making, Written};
 
 use links::{Allowance, Book, Links, Refusal, Refused, check_add, check_remove};
 use rise::first_unordered;
-use row::{Change, change_both, position, row_loads};
+use row::{Change, change_row, position, row_loads};
 
 // A book of links in memory that the caller lends. Each load has a row: the number of its links, the loads that it is
 // linked to in rising order, then zeros.
@@ -82,6 +83,16 @@ impl SortedRows<'_> {
         ensures none { book_made self.now → result ≡ None }
     {
         first_unordered(self.row(a))
+    }
+}
+
+// Puts each of two loads into the row of the other, or takes it out. There is a row for each load below `size`.
+fn change_both(rows: &mut [u16], size: u16, row_limit: u8, a: usize, b: usize, change: Change)
+    ensures { BothChanged change size row_limit a b rows.old rows.new }
+{
+    if a < size as usize && b < size as usize {
+        change_row(rows, row_limit, a as u16, b as u16, change);
+        change_row(rows, row_limit, b as u16, a as u16, change);
     }
 }
 

@@ -1,5 +1,5 @@
 use Rattle.row.proofs.Memory.{both_rows_changed}
-use Rattle.row.proofs.change_both.Goals as goal
+use Rattle.rows.proofs.change_both.Goals as goal
 
 pub returns-then-b-size : goal.returns-then-b-size
 returns-then-b-size c =
