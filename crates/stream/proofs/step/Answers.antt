@@ -4,17 +4,17 @@ use Rattle.stream.proofs.Stepping.{stepping_none, fits, Turns, turns_command, tu
 use Rattle.stream.proofs.step.Goals as goal
 use Rattle.stream.proofs.step.Goals.{in-Ok-Some, in-Err}
 
-pub returns-in-err-written : goal.returns-in-err-written
-returns-in-err-written g c =
-    let room = (stepping_none c.args.stream.now c.args.out.now c.in-ok-check-step.ensures.0).1 in
-    let refused = c.in-err-written.ensures in
-    absurd (fits _ c.args.out.now c.in-err-written.field-0.0 (omega (arith, room, refused.short)) refused.writes.answers)
+pub returns-in_err-written : goal.returns-in_err-written
+returns-in_err-written g c =
+    let room = (stepping_none c.args.stream.now c.args.out.now c.in_ok-check_step.ensures.0).1 in
+    let refused = c.in_err-written.ensures in
+    absurd (fits _ c.args.out.now c.in_err-written.field-0.0 (omega (arith, room, refused.short)) refused.writes.answers)
 
 pub returns : goal.returns
 returns g c =
-    let none = c.in-ok-check-step.ensures.0 in
+    let none = c.in_ok-check_step.ensures.0 in
     let short = (stepping_none c.args.stream.now c.args.out.now none).0 in
-    let written = c.in-ok-written.ensures in
+    let written = c.in_ok-written.ensures in
     let turns : Turns g.B.Links.graph g.B.Links.made g.B.Book.ledger g.R.Ranking.before c.args.board.now c.args.stream.now c.args.place c.match-read.next.1 c.match-read.next.0 c.match-read.board =
     elim c.match-read.branch [
       | in-Ok-Some w ↦

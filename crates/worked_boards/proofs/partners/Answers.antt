@@ -8,11 +8,11 @@ use Rattle.worked_boards.proofs.Played.{read_more}
 use Rattle.worked_boards.proofs.Refusals.{not_refused}
 use Rattle.worked_boards.proofs.partners.Goals as goal
 
-pub returns-in-err-partners : goal.returns-in-err-partners
-returns-in-err-partners g c = λ stands inside.
+pub returns-in_err-partners : goal.returns-in_err-partners
+returns-in_err-partners g c = λ stands inside.
     let n = (g.B.Links.graph c.args.board.now.book).size in
     let within : c.loop-a.a < n = omega arith in
-    absurd (not_refused c.in-err-partners.field-0.0 (cond-false _ _ _ (lt-leb n c.loop-a.a within)) (c.in-err-partners.ensures stands))
+    absurd (not_refused c.in_err-partners.field-0.0 (cond-false _ _ _ (lt-leb n c.loop-a.a within)) (c.in_err-partners.ensures stands))
 
 pub loop-a-init : goal.loop-a-init
 loop-a-init g c = (length-replicate g.row.N None, λ _. refl)
@@ -23,7 +23,7 @@ loop-a-preserved g c =
     let long = c.loop-a.invariant.0 in
     let room : a < length c.loop-a.partners = omega arith in (
       length-set c.loop-a.partners a _ ∙ long,
-      λ stands. read_more (partners_of c.args.board.now.tables) c.loop-a.partners a _ room (c.loop-a.invariant.1 stands) (c.in-ok-partners.ensures stands).1,
+      λ stands. read_more (partners_of c.args.board.now.tables) c.loop-a.partners a _ room (c.loop-a.invariant.1 stands) (c.in_ok-partners.ensures stands).1,
     )
 
 pub returns : goal.returns
