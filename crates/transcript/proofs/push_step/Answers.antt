@@ -8,12 +8,12 @@ use Rattle.transcript.proofs.push_step.Goals as goal
 
 pub returns : goal.returns
 returns g c =
-    let steps = c.in-ok-stepped.ensures in
+    let steps = c.in_ok-stepped.ensures in
     let s = c.args.board.now in
     let y = step_at (g.R.Ranking.before s.ranking) (position g.B.Links.graph g.B.Book.ledger s) c.args.stream.now c.args.place in
     let text = vec_items c.args.text.now in
     let line = c.step.new.out in
-    let n = c.in-ok-stepped.stepped.written in
+    let n = c.in_ok-stepped.stepped.written in
     record {
       ranking_is = steps.ranking_is;
       ends = (
@@ -24,8 +24,8 @@ returns g c =
               place_is = makes.place_is;
               adds = record {
                 position_is = makes.position_is;
-                text_is = pushed {X = ℕ} {was = text} {xs = text} (take n line) refl c.in-ok-extend-from-slice.was c.extend-from-slice.ensures.items
-                    ∙ ap (λ (l : List ℕ). text ++ l) (front_is y.line _ line n makes.out_is makes.written-is);
+                text_is = pushed {X = ℕ} {was = text} {xs = text} (take n line) refl c.in_ok-extend_from_slice.was c.extend_from_slice.ensures.items
+                    ∙ ap (λ (l : List ℕ). text ++ l) (front_is y.line _ line n makes.out_is makes.written_is);
                 stands = makes.stands;
               };
             },
