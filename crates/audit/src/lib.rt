@@ -1,5 +1,6 @@
 // The audit: whether claimed partners are a matching of the links, with no augmenting path of one or three links.
 #![tactic(auto)]
+
 ghost use Rattle.std.specs.Prelude.{◌≡◌, ◌<◌, ◌≤◌, true, length, IfSome};
 ghost use Rattle.audit.specs.Claims.{claimed, free as is_free, returned as is-returned};
 ghost use Rattle.audit.specs.Example.{MiddleClaimed};

@@ -1,11 +1,11 @@
 -- The bits of what the operations on words give.
-use Rattle.std.proofs.Common.{◌≡◌, ℕ, zero, suc, ◌+◌, ◌-◌, ◌*◌, ◌/◌, ◌%◌, ◌^◌, ◌<◌, ◌≤◌, Bool, true, false, cond, not, ◌&&◌, ◌||◌, eqb, ltb, leb, ◌⊎◌, sym, refl, ap, ◌∙◌, subst, ap₂, inl, inr, ⊎_elim, lt_of_lt_of_le, mod-lt, add_comm, pow-suc, one-add, arith, pow_mono, pow-add}
+use Rattle.std.proofs.Common.{◌≡◌, ℕ, zero, suc, ◌+◌, ◌-◌, ◌*◌, ◌/◌, ◌%◌, ◌^◌, ◌<◌, ◌≤◌, Bool, true, false, cond, not, ◌&&◌, ◌||◌, eqb, ltb, leb, sym, refl, ap, ◌∙◌, ap₂, ⊎_elim, lt_of_lt_of_le, mod-lt, add_comm, pow-suc, one-add, arith, pow_mono}
 use native.Mathlib.Nat.{zero-div, div-eq_of_lt}
 use lib.Bits.{bit_and, bit_or, shifted_even, shifted_half}
 use lib.Count.{count_trailing_zeros, under, ones, ones_in, ones_cat}
 use lib.Pow.{mod-mod-pow}
 use Rattle.std.proofs.lemmas.Nat.{and_mask, and_le_l, and_shr, and_mod, or_shr, or_mod, shr-shr, shl-shr, one_shl, pow_pos, field_of, shr_split, div_below}
-use Rattle.std.proofs.lemmas.Bool.{cases_order, cases_lt, ne_eqb, eq-eqb, lt-ltb, le-ltb, le-leb, lt-leb, leb-true, cases_Bool, and_left, and_right, and_parts, both_ways}
+use Rattle.std.proofs.lemmas.Bool.{cases_lt, ne_eqb, lt-ltb, le-ltb, le-leb, lt-leb, leb-true, and_left, and_parts}
 use Rattle.std.proofs.lemmas.Bool.Decides.{nat_tests}
 use Rattle.graph.specs.Graph.{First, count}
 use Rattle.graph.proofs.Counts.{count_ext}

@@ -1,8 +1,8 @@
 -- A bit matrix whose words are 0.
-use Rattle.std.proofs.Common.{◌≡◌, ℕ, ◌+◌, ◌-◌, ◌*◌, ◌/◌, ◌%◌, ◌<◌, ◌≤◌, true, false, cond, ltb, List, ◌++◌, length, get_or, None, sym, refl, ap, ◌∙◌, ⊎_elim, arith}
+use Rattle.std.proofs.Common.{◌≡◌, ℕ, ◌-◌, ◌*◌, ◌%◌, ◌<◌, ◌≤◌, false, cond, ltb, List, length, get_or, None, sym, ap, ◌∙◌, ⊎_elim, arith}
 use Rattle.std.proofs.lemmas.Bool.{cases_lt}
 use Rattle.std.proofs.lemmas.Bool.Decides.{nat_tests}
-use Rattle.graph.specs.Graph.{degree, link_count}
+use Rattle.graph.specs.Graph.{degree}
 use Rattle.graph.proofs.Counts.{count_none, link_count_none}
 use Rattle.bits.specs.Bit.{bit}
 use Rattle.bits.proofs.Bitwise.{bit_zero}

@@ -1,3 +1,4 @@
 // Books of links in memory that the caller lends.
 #![tactic(auto)]
+
 pub mod bit_matrix;

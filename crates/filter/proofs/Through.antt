@@ -1,5 +1,5 @@
 -- A change of the book below, seen through a filter.
-use Rattle.std.proofs.Common.{◌≡◌, ℕ, Bool, false, IsErrAnd, Some, None, Ok, Err, Option, Result, refl, ap, ◌∙◌, subst, ap₂}
+use Rattle.std.proofs.Common.{◌≡◌, ℕ, Bool, false, IsErrAnd, Some, None, Ok, Err, Option, Result, ap, ◌∙◌, subst, ap₂}
 use Rattle.graph.specs.Graph.{Graph}
 use Rattle.links.specs.declared.Layer.TheVariants.{Book}
 use Rattle.links.specs.declared.Refused.{Refused}

@@ -1,5 +1,6 @@
 // A link book seen through classes of loads.
 #![tactic(auto)]
+
 ghost use Rattle.std.specs.Prelude.{◌≡◌, ℕ, ◌<◌, ◌≤◌, IfSome, slice_index};
 ghost use Rattle.graph.specs.Graph.{count};
 ghost use Rattle.links.specs.Books.{Stands};

@@ -1,7 +1,7 @@
 -- Counts over the numbers below n, and how one link more changes them.
-use Rattle.std.proofs.Common.{◌≡◌, ℕ, zero, suc, ◌+◌, ◌-◌, ◌<◌, ◌≤◌, Bool, true, false, cond, ◌&&◌, ◌||◌, eqb, ◌⊎◌, sym, refl, ap, ◌∙◌, subst, ap₂, inl, inr, ⊎_elim, add-zero, add_assoc, add-suc, arith}
+use Rattle.std.proofs.Common.{◌≡◌, ℕ, zero, suc, ◌+◌, ◌-◌, ◌<◌, ◌≤◌, Bool, true, false, cond, ◌&&◌, ◌||◌, eqb, sym, refl, ap, ◌∙◌, subst, ap₂, ⊎_elim, add-zero, add_assoc, add-suc, arith}
 use Rattle.std.proofs.lemmas.Bool.{cases_order, cases_eq, ne_eqb, eq-eqb, eqb-true, cases_Bool, or_from, or_left, or_right, and_left, and_right}
-use Rattle.graph.specs.Graph.{Graph, count, total, degree, link_count, is_pair}
+use Rattle.graph.specs.Graph.{Graph, count, total, link_count, is_pair}
 
 -- ---- counts and sums of tests that agree
 

@@ -1,6 +1,7 @@
 // Graphs, matchings and augmenting paths: the definitions that the crates above cite. The functions here do nothing:
 // the contract of each is a theorem, which the check therefore asks to be proved.
 #![tactic(auto)]
+
 ghost use Rattle.graph.specs.Approximation.{Handshake, PairsAtLower, ShortPathsOfMatchings, TwoThirds};
 ghost use Rattle.graph.specs.Changes.{LinksCounted};
 ghost use Rattle.graph.specs.Theorems.{PathsOfOne, PathsOfThree, PathsAreOdd};

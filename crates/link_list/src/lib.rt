@@ -1,5 +1,6 @@
 // Links for asking only, in a list of entries that the caller lends.
 #![tactic(auto)]
+
 ghost use Rattle.std.specs.Prelude.{◌≡◌, length};
 ghost use Rattle.graph.specs.Graph.{Next};
 ghost use Rattle.links.specs.Refusals.{Answers};

@@ -1,5 +1,5 @@
 -- What a book allows besides its links, and how it answers a change.
-use Rattle.std.specs.Prelude.{◌≡◌, ℕ, ◌+◌, ◌-◌, ◌<◌, ◌≤◌, Bool, true, false, cond, ◌||◌, [], Some, None, Option, Result, ◌==◌, nat_le}
+use Rattle.std.specs.Prelude.{◌≡◌, ℕ, ◌+◌, ◌-◌, ◌<◌, ◌≤◌, Bool, true, cond, ◌||◌, [], Some, None, Option, Result, ◌==◌, nat_le}
 use Rattle.graph.specs.Graph.{Graph, link_count, added, removed}
 use Rattle.links.specs.declared.Layer.{Layer}
 use Rattle.links.specs.declared.Layer.TheVariants.{Book}

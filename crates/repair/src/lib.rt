@@ -1,6 +1,7 @@
 // The repair of a matching at a set of loads, carried out on the tables of a board: first each load of the set is
 // matched with a free one, then each that is still free is improved.
 #![tactic(auto)]
+
 ghost use Rattle.std.specs.Prelude.{[], ◌∷◌, Some};
 ghost use Rattle.rules.specs.Repair.{each, match_free, improve, repair};
 ghost use Rattle.rules.specs.Calls.{in_order, the_one, up_to};

@@ -1,5 +1,6 @@
 // The test of strict rise, for every kind of record that has an order.
 #![tactic(auto)]
+
 ghost use Rattle.std.specs.Prelude.{◌≡◌, Bool, true, false, MatchOption, nat_lt};
 ghost use Rattle.rise.specs.Rise.{Rises, FirstUnordered};
 ghost use Rattle.std.proofs.Common.{rules};

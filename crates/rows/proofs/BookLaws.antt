@@ -5,14 +5,14 @@ use Rattle.std.proofs.lemmas.List.{get_or_append_left, get_or-append_right, get_
 use Rattle.std.proofs.lemmas.Bool.{cases_lt, lt-ltb, le-ltb, cond-true, cond-false, and_right, both_ways}
 use Rattle.std.proofs.lemmas.Bool.Decides.{nat_tests}
 use Rattle.rise.specs.Rise.{Rises, FirstUnordered}
-use Rattle.graph.specs.Graph.{Simple, degree, count, First}
+use Rattle.graph.specs.Graph.{Simple, degree, First}
 use Rattle.graph.proofs.Counts.{link_count_none, count_ext}
 use Rattle.links.specs.Books.{Bounded}
 use Rattle.links.specs.Refusals.{Reason}
 use Rattle.row.specs.Row.{entries, has, place, RowMade}
 use Rattle.links.specs.Memory.{Cleared}
 use Rattle.row.specs.Memory.{loads_of_row, row_of}
-use Rattle.rows.specs.Rows.{graph_of, ledger_of, RowsMade, checking, fresh, Fresh, Making}
+use Rattle.rows.specs.Rows.{graph_of, ledger_of, RowsMade, checking, Fresh, Making}
 use Rattle.rows.specs.declared.SortedRows.{SortedRows}
 use Rattle.row.proofs.Memory.{row_end, get_row_of, length_row_of}
 use Rattle.row.proofs.Rising.{Above, above_from_rises, rises_from_above, count_has, place_has, place_none, place_first}

@@ -1,5 +1,6 @@
 // A link book in rows of equal length.
 #![tactic(auto)]
+
 ghost use Rattle.std.specs.Prelude.{◌≡◌, length, None, MatchOption, nat_lt};
 ghost use Rattle.rise.specs.Rise.{Rises, FirstUnordered};
 ghost use Rattle.links.specs.Books.{Adds, Removes};

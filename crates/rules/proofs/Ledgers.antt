@@ -1,5 +1,5 @@
 -- Spares and room follow the links.
-use Rattle.std.proofs.Common.{◌≡◌, ℕ, ◌+◌, ◌<◌, ◌≤◌, true, ◌||◌, eqb, Some, None, Option, refl, ◌∙◌, inl, inr, arith}
+use Rattle.std.proofs.Common.{◌≡◌, ℕ, ◌+◌, ◌<◌, ◌≤◌, ◌||◌, eqb, Some, None, Option, refl, ◌∙◌, inl, inr, arith}
 use Rattle.std.proofs.lemmas.Bool.{cases_Bool, or_cases, eqb-true}
 use Rattle.graph.specs.Graph.{Graph, Simple, degree, link_count, added, removed}
 use Rattle.graph.specs.Isolated.{isolated}

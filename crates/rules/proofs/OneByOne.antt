@@ -1,10 +1,10 @@
 -- Removing the links of a load one by one.
-use Rattle.std.proofs.Common.{◌≡◌, ℕ, zero, suc, ◌+◌, ◌<◌, Bool, true, false, cond, not, ◌&&◌, ◌||◌, eqb, ltb, sym, refl, ap, ◌∙◌, inl, inr, arith}
-use Rattle.std.proofs.lemmas.Bool.{cases_Bool, lt-ltb, both_ways}
+use Rattle.std.proofs.Common.{◌≡◌, ℕ, zero, suc, ◌+◌, Bool, cond, not, ◌&&◌, ◌||◌, eqb, ltb, refl, ◌∙◌, inl, inr, arith}
+use Rattle.std.proofs.lemmas.Bool.{cases_Bool, lt-ltb}
 use Rattle.std.proofs.lemmas.Bool.Decides.{nat_tests}
-use Rattle.graph.specs.Graph.{Graph, Simple, count, removed}
+use Rattle.graph.specs.Graph.{Graph, Simple, count}
 use Rattle.graph.specs.Isolated.{isolated}
-use Rattle.links.specs.Books.{Ledger, raised}
+use Rattle.links.specs.Books.{Ledger}
 use Rattle.rules.specs.Calls.{released}
 use Rattle.rules.specs.OneByOne.{stripped, stripped_ledger, OneByOne}
 

@@ -1,5 +1,6 @@
 // The tables of a board: the partner and the degree of each load, and which of the loads linked to it are free.
 #![tactic(auto)]
+
 ghost use Rattle.std.specs.Prelude.{◌≡◌, ◌<◌, IfSome};
 ghost use Rattle.graph.specs.Graph.{Next};
 ghost use Rattle.graph.specs.Pairs.{is_free};

@@ -1,4 +1,4 @@
-use Rattle.std.proofs.Common.{◌≡◌, ℕ, Some, None, sym, ◌∙◌, subst}
+use Rattle.std.proofs.Common.{◌≡◌, ℕ, Some, None, subst}
 use Rattle.links.specs.Books.{unless_two}
 use Rattle.links.specs.Refusals.{told}
 use Rattle.links.specs.declared.Layer.TheVariants.{Book}

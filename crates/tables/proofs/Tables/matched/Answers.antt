@@ -1,4 +1,4 @@
-use Rattle.std.proofs.Common.{◌≡◌, ℕ, ◌<◌, ◌≤◌, subst, arith}
+use Rattle.std.proofs.Common.{◌≡◌, ℕ, subst, arith}
 use Rattle.graph.specs.Graph.{count}
 use Rattle.graph.specs.Pairs.{has_partner}
 use Rattle.graph.proofs.Counts.{count_le}

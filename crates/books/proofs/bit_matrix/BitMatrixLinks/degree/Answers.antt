@@ -1,5 +1,4 @@
-use Rattle.std.proofs.Common.{◌≡◌, ℕ, ◌+◌, ◌*◌, sym, ap, ◌∙◌, arith}
-use Rattle.graph.specs.Graph.{count}
+use Rattle.std.proofs.Common.{ℕ, ◌+◌, ◌*◌, sym, ap, ◌∙◌, arith}
 use Rattle.graph.proofs.Counts.{count_none}
 use Rattle.books.proofs.Cells.{linked_past_row}
 use Rattle.books.proofs.Rows.{row_more, row_all}

@@ -1,4 +1,4 @@
-use Rattle.std.proofs.Common.{◌≡◌, ℕ, ◌%◌, sym, ap, ◌∙◌, arith}
+use Rattle.std.proofs.Common.{ℕ, ◌%◌, sym, ap, ◌∙◌, arith}
 use Rattle.bits.specs.Bit.{bit}
 use Rattle.books.specs.Matrix.{cell}
 use Rattle.books.proofs.Cells.{linked_in}

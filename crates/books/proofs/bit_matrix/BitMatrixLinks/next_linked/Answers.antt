@@ -1,4 +1,4 @@
-use Rattle.std.proofs.Common.{◌+◌, ◌*◌, ◌<◌, ◌≤◌, arith}
+use Rattle.std.proofs.Common.{◌*◌, arith}
 use Rattle.books.proofs.Rows.{none_more, none_all, first_in}
 use Rattle.books.proofs.bit_matrix.BitMatrixLinks.next_linked.Goals as goal
 
