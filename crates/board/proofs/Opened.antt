@@ -12,7 +12,7 @@ use Rattle.tables.specs.declared.Tables.{Tables}
 use Rattle.tables.specs.Views.{partners_of}
 use Rattle.repair.specs.Holds.{Changes, Holds}
 use Rattle.board.specs.Recording.{AllFree}
-use Rattle.board.specs.Boards.{position, Stands, Opens}
+use Rattle.board.specs.Boards.{position, Opens}
 
 empty_matching : (g : Graph) → Matching g (λ _. None)
 empty_matching g = record { returned = λ a b e. cc; linked = λ a b e. cc }

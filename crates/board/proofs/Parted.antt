@@ -1,10 +1,10 @@
 -- Two loads parted, if they are partners.
-use Rattle.std.proofs.Common.{◌≡◌, ℕ, ◌<◌, eqb, Some, None, Option, sym, ap, ◌∙◌, subst}
+use Rattle.std.proofs.Common.{◌≡◌, ℕ, eqb, Some, None, sym, ap, ◌∙◌}
 use Rattle.std.proofs.lemmas.Bool.{cond-true, cond-false, eq-eqb, ne_eqb}
 use Rattle.graph.specs.Graph.{Graph}
 use Rattle.rules.specs.Calls.{parted}
 use Rattle.tables.specs.declared.Tables.{Tables}
-use Rattle.tables.specs.Views.{partners_of, Agrees}
+use Rattle.tables.specs.Views.{partners_of}
 use Rattle.tables.specs.Changes.{Parting}
 use Rattle.board.specs.Parting.{PartsPartners}
 

@@ -4,7 +4,7 @@ use Rattle.graph.specs.Graph.{Graph, Next}
 use Rattle.links.specs.Books.{Ledger}
 use Rattle.links.specs.Refusals.{Answers}
 use Rattle.links.specs.declared.Refused.{Refused}
-use Rattle.rules.specs.Calls.{Call, link, unlink, withdraw, depart, ask_partner, ask_free_links, ask_pairs, reason, after, partner_of, free_links_of, pairs_of}
+use Rattle.rules.specs.Calls.{Call, link, unlink, withdraw, depart, ask_partner, ask_free_links, reason, after, partner_of, free_links_of, pairs_of}
 use Rattle.rules.specs.Health.{Healthy, TwoThirds, Follows, changes}
 use Rattle.rules.specs.Laws.{allowed}
 use Rattle.rules.specs.Repair.{Ranking, free_link}

@@ -1,5 +1,6 @@
 // A board: a book of links, a ranking, and the matching that is kept on them.
 #![tactic(auto)]
+
 ghost use Rattle.std.specs.Prelude.{◌≡◌, ◌≤◌, None};
 ghost use Rattle.links.specs.Refusals.{Answers};
 ghost use Rattle.rules.specs.Calls.{unless_load};

@@ -1,5 +1,6 @@
 // What a caller can prove of books from their contracts alone.
 #![tactic(auto)]
+
 ghost use Rattle.std.specs.Prelude.{◌≡◌, true, Ok};
 ghost use Rattle.links.specs.Books.{adding};
 ghost use Rattle.links.specs.Refusals.{Answers, Kept};

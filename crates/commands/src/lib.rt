@@ -1,5 +1,6 @@
 // The commands of a stream, as bytes: one for the kind of command, then two for each of its loads, the high byte first.
 #![tactic(auto)]
+
 ghost use Rattle.std.specs.Prelude.{◌≡◌, ◌+◌, ◌*◌, ◌≤◌, length, take};
 ghost use Rattle.links.specs.Refusals.{Answers};
 ghost use Rattle.commands.specs.Commands.{bytes, decoding, decoded, Writes, Reads, Spanned, ReadsBack};

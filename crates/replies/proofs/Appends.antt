@@ -1,5 +1,5 @@
 -- Buffers that bytes were appended to.
-use Rattle.std.proofs.Common.{◌≡◌, ℕ, ◌+◌, List, [], ◌++◌, ap, ◌∙◌, append_assoc, arith, length-append}
+use Rattle.std.proofs.Common.{◌≡◌, ℕ, List, [], ◌++◌, ap, ◌∙◌, append_assoc, arith, length-append}
 use Rattle.replies.specs.Buffers.{text, Appends}
 use Rattle.replies.specs.declared.buffer.Buffer.{Buffer}
 

@@ -1,5 +1,6 @@
 // The lines of text that are answered, byte by byte.
 #![tactic(auto)]
+
 ghost use Rattle.std.specs.Prelude.{◌≡◌, ◌≤◌, length};
 ghost use Rattle.replies.specs.Buffers.{Appends};
 ghost use Rattle.replies.specs.Digits.{DigitsDecimal, TwoDigitsDecimal};

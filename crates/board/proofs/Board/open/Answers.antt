@@ -1,4 +1,4 @@
-use Rattle.std.proofs.Common.{◌≡◌, ℕ, ◌≤◌, sym, ap, ◌∙◌, subst, arith}
+use Rattle.std.proofs.Common.{◌≡◌, ◌≤◌, ap, ◌∙◌, arith}
 use Rattle.rules.specs.Threshold.{threshold}
 use Rattle.board.proofs.Opened.{opens, opened_holds}
 use Rattle.board.proofs.Runs.{law}

@@ -1,4 +1,4 @@
-use Rattle.std.proofs.Common.{◌≡◌, ℕ, ◌/◌, ap, ◌∙◌}
+use Rattle.std.proofs.Common.{ℕ, ◌/◌, ap, ◌∙◌}
 use Rattle.tables.proofs.Matched.{matched_below}
 use Rattle.board.proofs.Board.pairs.Goals as goal
 
