@@ -1,5 +1,6 @@
 // Examples of what the crates below answer, proved safe and then run.
 #![tactic(auto)]
+
 #[cfg(test)]
 mod claims;
 #[cfg(test)]

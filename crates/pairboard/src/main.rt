@@ -1,5 +1,6 @@
 // Plays a stream of commands from standard input on a board, and prints the answer to each and then the pairs.
 #![tactic(auto)]
+
 use commands::LONGEST_STREAM;
 use std::io;
 use std::io::Read;

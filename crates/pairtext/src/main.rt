@@ -1,5 +1,6 @@
 // Turns lines of commands into the bytes of a stream, and with `--decode` the bytes of a stream into lines.
 #![tactic(auto)]
+
 use std::io::Read;
 use std::{env, io};
 use text::stream::{BadStream, BadText, decode, encode};

@@ -1,5 +1,6 @@
 // A stream of commands played on a board, a step at a time, and the list of its pairs.
 #![tactic(auto)]
+
 ghost use Rattle.std.specs.Prelude.{◌≡◌, ◌%◌, ◌≤◌, length, IfOk, if◌then◌else◌};
 ghost use Rattle.graph.specs.Pairs.{below_partner};
 ghost use Rattle.links.specs.Refusals.{Answers};

@@ -1,5 +1,6 @@
 // Examples of what the commands and the play of a stream answer, proved safe and then run.
 #![tactic(auto)]
+
 #[cfg(test)]
 mod bytes;
 #[cfg(test)]

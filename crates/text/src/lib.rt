@@ -1,5 +1,6 @@
 // Commands as lines of text: a word for the kind of command, then its loads in decimal.
 #![tactic(auto)]
+
 ghost use Rattle.std.specs.Prelude.{◌≡◌, IfOk, string_bytes};
 ghost use Rattle.text.specs.Lines.{line_of, command_of_one, command_of_two, command_of, meaning, Means};
 

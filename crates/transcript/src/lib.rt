@@ -1,5 +1,6 @@
 // All that is answered to a stream of commands: the line of each step, and then that of each pair.
 #![tactic(auto)]
+
 ghost use Rattle.std.specs.Prelude.{◌≡◌, ◌++◌, None};
 ghost use Rattle.board.specs.Boards.{position, Stands};
 ghost use Rattle.stream.specs.Pairs.{lines_of};

@@ -1,6 +1,7 @@
 // Boards played through on real books. What must come of each stands in its contract, and follows from the contracts of
 // boards, books and rankings alone.
 #![tactic(auto)]
+
 ghost use Rattle.std.specs.Prelude.{◌≡◌, [], ◌∷◌, Some, None, Ok, Err};
 ghost use Rattle.graph.specs.Graph.{edgeless};
 ghost use Rattle.links.specs.Books.{Stands};
