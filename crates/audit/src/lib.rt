@@ -2,7 +2,7 @@
 #![tactic(auto)]
 
 ghost use Rattle.std.specs.Prelude.{◌≡◌, ◌<◌, ◌≤◌, true, length, IfSome};
-ghost use Rattle.audit.specs.Claims.{claimed, free as is_free, returned as is-returned};
+ghost use Rattle.audit.specs.Claims.{claimed, free as is_free, returned as is_returned};
 ghost use Rattle.audit.specs.Example.{MiddleClaimed};
 ghost use Rattle.audit.specs.Soundness.{SoundWhen};
 ghost use Rattle.audit.specs.Steps.{NextBelow, Tells};
@@ -45,7 +45,7 @@ fn is_free(claims: &[u16], a: usize) -> bool
 
 // Whether the partner of a, if it has one, claims it back.
 fn is_returned(claims: &[u16], a: usize) -> bool
-    ensures { result ≡ is-returned (claimed claims.now) a }
+    ensures { result ≡ is_returned (claimed claims.now) a }
 {
     match partner_of(claims, a) {
         Some(b) => match partner_of(claims, b) {

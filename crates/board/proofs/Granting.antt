@@ -2,7 +2,7 @@
 use Rattle.std.proofs.Common.{◌≡◌, ℕ, ◌≤◌, List, IsErrAnd, Some, None, Ok, Err, Option, Result, sym, refl, ap, ◌∙◌, subst}
 use Rattle.graph.specs.Graph.{Graph, link_count}
 use Rattle.graph.specs.Matching.{Partners, Matching}
-use Rattle.links.specs.Books.{Ledger, Bounded, unless_two}
+use Rattle.links.specs.Books.{Ledger, Bounded, unless_two_of}
 use Rattle.links.specs.Refusals.{Reason, told}
 use Rattle.links.specs.declared.Layer.TheVariants.{Board as BoardLayer}
 use Rattle.links.specs.declared.Refused.{Refused}
@@ -37,14 +37,14 @@ module _ {B R : Type 0} (graph : B → Graph) (made : B → Type 0) (ledger : B 
 
   -- of a call on two loads: the board finds the reason, or the book does
   module _ (size a b : ℕ) (o : Option Reason) (size_is : made s.book → size ≡ (graph s.book).size)
-      (ladder : reason (position graph ledger s) c ≡ unless_two BoardLayer (graph s.book).size a b o) (f : Refused) (r : Result Unit Refused) (by : IsErrAnd r (λ e. e ≡ f)) where
-    pub board_refuses : unless_two BoardLayer size a b None ≡ Some (told f) → Steps graph made ledger before s c r s
+      (ladder : reason (position graph ledger s) c ≡ unless_two_of BoardLayer (graph s.book).size a b o) (f : Refused) (r : Result Unit Refused) (by : IsErrAnd r (λ e. e ≡ f)) where
+    pub board_refuses : unless_two_of BoardLayer size a b None ≡ Some (told f) → Steps graph made ledger before s c r s
     board_refuses why = refused_steps f r s by refl (λ stands.
-        ladder ∙ two_refused BoardLayer (graph s.book).size a b o (told f) (subst (λ (n : ℕ). unless_two BoardLayer n a b None ≡ Some (told f)) (size_is stands.book_made) why))
+        ladder ∙ two_refused BoardLayer (graph s.book).size a b o (told f) (subst (λ (n : ℕ). unless_two_of BoardLayer n a b None ≡ Some (told f)) (size_is stands.book_made) why))
 
-    pub book_refuses : (t : Board B R) → t ≡ s → unless_two BoardLayer size a b None ≡ None → (made s.book → o ≡ Some (told f)) → Steps graph made ledger before s c r t
+    pub book_refuses : (t : Board B R) → t ≡ s → unless_two_of BoardLayer size a b None ≡ None → (made s.book → o ≡ Some (told f)) → Steps graph made ledger before s c r t
     book_refuses t same two why = refused_steps f r t by same (λ stands.
-        let none = subst (λ (n : ℕ). unless_two BoardLayer n a b None ≡ None) (size_is stands.book_made) two in
+        let none = subst (λ (n : ℕ). unless_two_of BoardLayer n a b None ≡ None) (size_is stands.book_made) two in
         ladder ∙ two_granted BoardLayer (graph s.book).size a b o (two_none BoardLayer (graph s.book).size a b None none).0 ∙ why stands.book_made)
 
   -- ---- granted

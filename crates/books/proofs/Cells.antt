@@ -5,7 +5,7 @@ use Rattle.std.proofs.lemmas.Bool.{cases_lt, cases_eq, eq-eqb, ne_eqb, eqb-true,
 use Rattle.graph.specs.Graph.{Simple}
 use Rattle.bits.specs.Bit.{bit}
 use Rattle.books.specs.declared.bit_matrix.BitMatrix.{BitMatrix}
-use Rattle.books.specs.Matrix.{row_words, all_words, word_at, cell, is_place, matrix, matrix_graph, matrix_made}
+use Rattle.books.specs.Matrix.{row_words, all_words, word_at, cell, is_place, matrix, matrix_graph, MatrixMade}
 
 pub linked_in : (n : ℕ) (words : List ℕ) (a b : ℕ) → a < n → b < n → (matrix n words).linked a b ≡ cell n words a b
 linked_in n words a b l m = rw (lt-ltb a n l, lt-ltb b n m)
@@ -16,7 +16,7 @@ linked_past_row n words a b l = and_left (ltb a n) _ (le-ltb a n l)
 pub linked_past : (n : ℕ) (words : List ℕ) (a b : ℕ) → n ≤ b → (matrix n words).linked a b ≡ false
 linked_past n words a b l = and_right (ltb a n) _ (and_left (ltb b n) _ (le-ltb b n l))
 
-pub made_simple : (m : BitMatrix) → matrix_made m → Simple (matrix_graph m)
+pub made_simple : (m : BitMatrix) → MatrixMade m → Simple (matrix_graph m)
 made_simple m made =
     record {
       small = made.small;

@@ -65,8 +65,8 @@ pub record Made (n limit count : ℕ) (words : List ℕ) : Type 0 where
   pub within : count ≤ limit
 
 -- the book came from its making
-abbrev pub matrix_made : BitMatrix → Type 0
-matrix_made m = Made m.size m.limit m.count m.words.now
+abbrev pub MatrixMade : BitMatrix → Type 0
+MatrixMade m = Made m.size m.limit m.count m.words.now
 
 -- ---- the making
 
@@ -83,7 +83,7 @@ fresh n limit =
 
 -- the matrix has no links and every spare
 abbrev pub Fresh : ℕ → ℕ → BitMatrix → Type 0
-Fresh n limit m = Stands matrix_graph matrix_made matrix_ledger m (edgeless n) (fresh n limit)
+Fresh n limit m = Stands matrix_graph MatrixMade matrix_ledger m (edgeless n) (fresh n limit)
 
 -- what is made in memory that held `before`: a matrix, or, where there is a reason to refuse it, a book of no loads
 abbrev pub Making : Option Reason → ℕ → ℕ → List ℕ → BitMatrix → Type 0

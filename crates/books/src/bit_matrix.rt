@@ -3,7 +3,7 @@ ghost use Rattle.std.specs.Prelude.{◌≡◌, ℕ, ◌+◌, ◌*◌, ◌%◌, �
 ghost use Rattle.bits.specs.Bit.{bit};
 ghost use Rattle.links.specs.Books.{Adds, Removes};
 ghost use Rattle.links.specs.Refusals.{Answers};
-ghost use Rattle.books.specs.Matrix.{row_words, all_words, word_at, is_place, is_link_place, matrix_graph, matrix_ledger, matrix_made, checking, Making, Written, Beyond};
+ghost use Rattle.books.specs.Matrix.{row_words, all_words, word_at, is_place, is_link_place, matrix_graph, matrix_ledger, MatrixMade, checking, Making, Written, Beyond};
 
 use bits::{bit_of, count_bits, next_bit, with_bit, without_bit};
 use links::{Allowance, Book, Links, Refusal, Refused, check_add, check_remove};
@@ -65,7 +65,7 @@ impl<'a> BitMatrix<'a> {
 
     // Makes a book with no links. Where the check would refuse, it has no loads and the words stay as they are.
     pub fn new(size: usize, limit: usize, words: &'a mut [u64]) -> BitMatrix<'a>
-        ensures made { matrix_made result }
+        ensures made { MatrixMade result }
         ensures making { Making (checking size limit (length words.old)) size limit words.old result }
         ensures lender { result.words.ghost_name ≡ words.entry.ghost_name }
     {
@@ -141,7 +141,7 @@ fn put_link(words: &mut [u64], size: usize, a: usize, b: usize, on: bool)
 impl Links for BitMatrix<'_> {
     ghost graph = { matrix_graph };
 
-    ghost made = { matrix_made };
+    ghost made = { MatrixMade };
 
     fn size(&self) -> usize {
         self.size
@@ -205,9 +205,9 @@ impl Book for BitMatrix<'_> {
     }
 
     fn add(&mut self, a: usize, b: usize) -> Result<(), Refused>
-        ensures book { Adds matrix_graph matrix_made matrix_ledger self.old a b result self.new }
+        ensures book { Adds matrix_graph MatrixMade matrix_ledger self.old a b result self.new }
         ensures lender { self.new.words.ghost_name ≡ self.old.words.ghost_name }
-        ensures words { matrix_made self.old → is_ok result ≡ true → Written true (is_link_place self.old.size a b) self.old.words.now self.new.words.now }
+        ensures words { MatrixMade self.old → is_ok result ≡ true → Written true (is_link_place self.old.size a b) self.old.words.now self.new.words.now }
         ensures beyond { Beyond self.old.size self.old.words.now self.new.words.now }
     {
         let allowance = Allowance {
@@ -224,9 +224,9 @@ impl Book for BitMatrix<'_> {
     }
 
     fn remove(&mut self, a: usize, b: usize) -> Result<(), Refused>
-        ensures book { Removes matrix_graph matrix_made matrix_ledger self.old a b result self.new }
+        ensures book { Removes matrix_graph MatrixMade matrix_ledger self.old a b result self.new }
         ensures lender { self.new.words.ghost_name ≡ self.old.words.ghost_name }
-        ensures words { matrix_made self.old → is_ok result ≡ true → Written false (is_link_place self.old.size a b) self.old.words.now self.new.words.now }
+        ensures words { MatrixMade self.old → is_ok result ≡ true → Written false (is_link_place self.old.size a b) self.old.words.now self.new.words.now }
         ensures beyond { Beyond self.old.size self.old.words.now self.new.words.now }
     {
         check_remove(self, a, b)?;

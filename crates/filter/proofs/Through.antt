@@ -3,11 +3,11 @@ use Rattle.std.proofs.Common.{◌≡◌, ℕ, Bool, false, IsErrAnd, Some, None,
 use Rattle.graph.specs.Graph.{Graph}
 use Rattle.links.specs.declared.Layer.TheVariants.{Book}
 use Rattle.links.specs.declared.Refused.{Refused}
-use Rattle.links.specs.Books.{Ledger, Stands, Adds, Removes, unless_two}
+use Rattle.links.specs.Books.{Ledger, Stands, Adds, Removes, unless_two_of}
 use Rattle.links.specs.Refusals.{Reason, told, Answers, Kept}
 use Rattle.links.proofs.Reasons.{TwoLoads, two_none, two_refused, refused_by}
 use Rattle.filter.specs.declared.ClassFilter.{ClassFilter}
-use Rattle.filter.specs.Classes.{hidden, filtered, filtered_ledger, filter_graph, filter_made, filter_ledger}
+use Rattle.filter.specs.Classes.{hidden, filtered, filtered_ledger, filter_graph, FilterMade, filter_ledger}
 use Rattle.filter.proofs.Filtered.{hidden_symmetric, adding_filtered, removing_filtered, filtered_added, filtered_removed}
 
 kept_map : {A S T : Type 0} (f : S → T) (r : Result A Refused) (s t : S) → Kept r s t → Kept r (f s) (f t)
@@ -15,11 +15,11 @@ kept_map f (Ok x) s t k = tt
 kept_map f (Err e) s t k = ap f k
 
 -- refused as by a `?`, since a and b are not two of n loads
-pub not_two : {A : Type 0} (size n a b : ℕ) (otherwise : Option Reason) (e : Refused) (r : Result A Refused) (Granted : A → Type 0) → size ≡ n → unless_two Book size a b None ≡ Some (told e) → IsErrAnd r (λ x. x ≡ e) → Answers (unless_two Book n a b otherwise) r Granted
+pub not_two : {A : Type 0} (size n a b : ℕ) (otherwise : Option Reason) (e : Refused) (r : Result A Refused) (Granted : A → Type 0) → size ≡ n → unless_two_of Book size a b None ≡ Some (told e) → IsErrAnd r (λ x. x ≡ e) → Answers (unless_two_of Book n a b otherwise) r Granted
 not_two size n a b otherwise e r Granted is-size why by =
-    refused_by _ e r Granted by (two_refused Book n a b otherwise _ (subst (λ (k : ℕ). unless_two Book k a b None ≡ Some (told e)) is-size why))
+    refused_by _ e r Granted by (two_refused Book n a b otherwise _ (subst (λ (k : ℕ). unless_two_of Book k a b None ≡ Some (told e)) is-size why))
 
-pub are_two : (size n a b : ℕ) → size ≡ n → unless_two Book size a b None ≡ None → TwoLoads n a b
+pub are_two : (size n a b : ℕ) → size ≡ n → unless_two_of Book size a b None ≡ None → TwoLoads n a b
 are_two size n a b is-size none = subst (λ (k : ℕ). TwoLoads k a b) is-size (two_none Book size a b None none).0
 
 module _ {B : Type 0} (graph : B → Graph) (made : B → Type 0) (ledger : B → Ledger) (s : ClassFilter B) (t : B) (a b : ℕ) (r : Result Unit Refused) (seen : hidden s.classes s.bars a b ≡ false) where
@@ -31,7 +31,7 @@ module _ {B : Type 0} (graph : B → Graph) (made : B → Type 0) (ledger : B �
 
   -- granted below, the filter stands for what is left of the graph and of the ledger there
   answers_through : (r : Result Unit Refused) (reason same : Option Reason) (g h : Graph) (l : Ledger) → same ≡ reason → filtered hid g ≡ h → Answers reason r (λ _. Stands graph made ledger t g l)
-      → Answers same r (λ _. Stands (filter_graph graph) (filter_made made) (filter_ledger graph ledger) (over t) h (filtered_ledger hid g.size l))
+      → Answers same r (λ _. Stands (filter_graph graph) (FilterMade made) (filter_ledger graph ledger) (over t) h (filtered_ledger hid g.size l))
   unfolding hid over
   answers_through (Ok x) reason same g h l e f (none, after) = (
     e ∙ none,
@@ -43,7 +43,7 @@ module _ {B : Type 0} (graph : B → Graph) (made : B → Type 0) (ledger : B �
   )
   answers_through (Err x) reason same g h l e f why = e ∙ why
 
-  pub adds_through : Adds graph made ledger s.below a b r t → Adds (filter_graph graph) (filter_made made) (filter_ledger graph ledger) s a b r (record { below = t; classes = s.classes; bars = s.bars })
+  pub adds_through : Adds graph made ledger s.below a b r t → Adds (filter_graph graph) (FilterMade made) (filter_ledger graph ledger) s a b r (record { below = t; classes = s.classes; bars = s.bars })
   unfolding hid over
   adds_through below =
       record {
@@ -53,7 +53,7 @@ module _ {B : Type 0} (graph : B → Graph) (made : B → Type 0) (ledger : B �
             (filtered_added hid (graph s.below) a b seen (hidden_symmetric s.classes s.bars)) (below.answers m);
       }
 
-  pub removes_through : Removes graph made ledger s.below a b r t → Removes (filter_graph graph) (filter_made made) (filter_ledger graph ledger) s a b r (record { below = t; classes = s.classes; bars = s.bars })
+  pub removes_through : Removes graph made ledger s.below a b r t → Removes (filter_graph graph) (FilterMade made) (filter_ledger graph ledger) s a b r (record { below = t; classes = s.classes; bars = s.bars })
   unfolding hid over
   removes_through below =
       record {

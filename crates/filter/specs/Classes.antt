@@ -31,8 +31,8 @@ filtered_ledger hid n l =
 abbrev pub filter_graph : {B : Type 0} → (B → Graph) → ClassFilter B → Graph
 filter_graph graph f = filtered (hidden f.classes f.bars) (graph f.below)
 
-abbrev pub filter_made : {B : Type 0} → (B → Type 0) → ClassFilter B → Type 0
-filter_made made f = made f.below
+abbrev pub FilterMade : {B : Type 0} → (B → Type 0) → ClassFilter B → Type 0
+FilterMade made f = made f.below
 
 abbrev pub filter_ledger : {B : Type 0} → (B → Graph) → (B → Ledger) → ClassFilter B → Ledger
 filter_ledger graph ledger f = filtered_ledger (hidden f.classes f.bars) (graph f.below).size (ledger f.below)

@@ -4,7 +4,7 @@
 ghost use Rattle.std.specs.Prelude.{◌≡◌, ℕ, ◌<◌, ◌≤◌, IfSome, slice_index};
 ghost use Rattle.graph.specs.Graph.{count};
 ghost use Rattle.links.specs.Books.{Stands};
-ghost use Rattle.filter.specs.Classes.{class_of, hidden, filtered, filtered_ledger, filter_graph, filter_made, filter_ledger, NextBelow};
+ghost use Rattle.filter.specs.Classes.{class_of, hidden, filtered, filtered_ledger, filter_graph, FilterMade, filter_ledger, NextBelow};
 
 use bits::bit_of;
 use links::{Book, Layer, Links, Refusal, Refused, check_two};
@@ -58,7 +58,7 @@ impl<B: Book> ClassFilter<B> {
         ensures below { result.below ≡ below }
         ensures classes { (a : ℕ) → class_of result.classes a ≡ class_of classes.now a }
         ensures bars { result.bars ≡ bars }
-        ensures stands { B.Links.made below → Stands (filter_graph B.Links.graph) (filter_made B.Links.made) (filter_ledger B.Links.graph B.Book.ledger) result (filtered (hidden classes.now bars) (B.Links.graph below)) (filtered_ledger (hidden classes.now bars) (B.Links.graph below).size (B.Book.ledger below)) }
+        ensures stands { B.Links.made below → Stands (filter_graph B.Links.graph) (FilterMade B.Links.made) (filter_ledger B.Links.graph B.Book.ledger) result (filtered (hidden classes.now bars) (B.Links.graph below)) (filtered_ledger (hidden classes.now bars) (B.Links.graph below).size (B.Book.ledger below)) }
     {
         ClassFilter {
             below,
@@ -106,7 +106,7 @@ impl<B: Book> ClassFilter<B> {
 impl<B: Book> Links for ClassFilter<B> {
     ghost graph = { filter_graph B.Links.graph };
 
-    ghost made = { filter_made B.Links.made };
+    ghost made = { FilterMade B.Links.made };
 
     fn size(&self) -> usize {
         self.below.size()

@@ -27,8 +27,8 @@ pub record Sound (n : ℕ) (es : List Entry) : Type 0 where
 abbrev pub list_graph : LinkList → Graph
 list_graph l = graph_of l.size l.entries.now
 
-abbrev pub list_made : LinkList → Type 0
-list_made l = Sound l.size l.entries.now
+abbrev pub ListMade : LinkList → Type 0
+ListMade l = Sound l.size l.entries.now
 
 abbrev pub bad_entry : Option ℕ → Option Reason
 bad_entry None = None

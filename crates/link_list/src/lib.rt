@@ -5,7 +5,7 @@ ghost use Rattle.std.specs.Prelude.{◌≡◌, length};
 ghost use Rattle.graph.specs.Graph.{Next};
 ghost use Rattle.links.specs.Refusals.{Answers};
 ghost use Rattle.link_list.specs.Entries.{entry_before, in_bounds, joins, touches, lower_of, first, out_of_bounds};
-ghost use Rattle.link_list.specs.Lists.{list_graph, list_made, checking, Sound, Listing};
+ghost use Rattle.link_list.specs.Lists.{list_graph, ListMade, checking, Sound, Listing};
 ghost use Rattle.std.proofs.Common.{rules};
 
 use links::{Links, Refusal, Refused};
@@ -121,7 +121,7 @@ impl<'a> LinkList<'a> {
 
     // The list of these entries, or a list of no loads where the check refuses them.
     pub fn new(size: usize, entries: &'a [Entry]) -> LinkList<'a>
-        ensures made { list_made result }
+        ensures made { ListMade result }
         ensures listing { Listing (checking size entries.now) size entries.now result }
     {
         match LinkList::check(size, entries) {
@@ -137,7 +137,7 @@ impl<'a> LinkList<'a> {
 impl Links for LinkList<'_> {
     ghost graph = { list_graph };
 
-    ghost made = { list_made };
+    ghost made = { ListMade };
 
     fn size(&self) -> usize {
         self.size

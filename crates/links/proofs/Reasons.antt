@@ -2,7 +2,7 @@
 use Rattle.std.proofs.Common.{◌≡◌, ℕ, ◌<◌, Bool, true, false, cond, ◌||◌, eqb, leb, is_ok, IsErrAnd, Some, None, Ok, Err, Option, Result, sym, refl, ap, ◌∙◌, inl, inr, arith}
 use Rattle.std.proofs.lemmas.Bool.{both_ways, cases_Bool, cond-false, or_from, or_parts, lt-leb, leb-false, ne_eqb, eqb-false}
 use Rattle.graph.specs.Graph.{Graph}
-use Rattle.links.specs.Books.{Ledger, unless_two, adding, removing}
+use Rattle.links.specs.Books.{Ledger, unless_two_of, adding, removing}
 use Rattle.links.specs.Refusals.{Reason, told, Answers, Kept}
 use Rattle.links.specs.declared.Layer.{Layer}
 use Rattle.links.specs.declared.Layer.TheVariants.{Book}
@@ -25,7 +25,7 @@ pub record TwoLoads (size a b : ℕ) : Type 0 where
   pub b_below : b < size
   pub apart : a ≡ b → ⊥
 
-pub two_none : (layer : Layer) (size a b : ℕ) (o : Option Reason) → unless_two layer size a b o ≡ None → TwoLoads size a b × (o ≡ None)
+pub two_none : (layer : Layer) (size a b : ℕ) (o : Option Reason) → unless_two_of layer size a b o ≡ None → TwoLoads size a b × (o ≡ None)
 two_none layer size a b o e =
     let (past, rest) = cond_none (leb size a || leb size b) _ _ e in
     let (same, rest') = cond_none (eqb a b) _ _ rest in
@@ -33,13 +33,13 @@ two_none layer size a b o e =
     (record { a_below = leb-false size a past-a; b_below = leb-false size b past-b; apart = eqb-false a b same }, rest')
 
 -- the reason is the same, whatever else would be tested
-pub two_refused : (layer : Layer) (size a b : ℕ) (o : Option Reason) (r : Reason) → unless_two layer size a b None ≡ Some r → unless_two layer size a b o ≡ Some r
+pub two_refused : (layer : Layer) (size a b : ℕ) (o : Option Reason) (r : Reason) → unless_two_of layer size a b None ≡ Some r → unless_two_of layer size a b o ≡ Some r
 two_refused layer size a b o r = elim (cases_Bool (leb size a || leb size b)) [
   | inl e ↦ rw e (λ h. h)
   | inr e ↦ elim (cases_Bool (eqb a b)) [ inl f ↦ rw (e, f) (λ h. h) | inr f ↦ rw (e, f) (λ h. cc) ]
 ]
 
-pub two_granted : (layer : Layer) (size a b : ℕ) (o : Option Reason) → TwoLoads size a b → unless_two layer size a b o ≡ o
+pub two_granted : (layer : Layer) (size a b : ℕ) (o : Option Reason) → TwoLoads size a b → unless_two_of layer size a b o ≡ o
 two_granted layer size a b o two =
     cond-false (leb size a || leb size b) _ _ (or_from (leb size a) (leb size b) (lt-leb size a two.a_below) (lt-leb size b two.b_below))
     ∙ cond-false (eqb a b) _ _ (ne_eqb a b two.apart)

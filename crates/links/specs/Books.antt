@@ -38,8 +38,8 @@ abbrev pub by : Layer → ℕ → Option Reason
 by layer number = Some (record { number = number; values = []; layer = layer })
 
 -- 4: not two loads; 5: the same load twice
-abbrev pub unless_two : Layer → ℕ → ℕ → ℕ → Option Reason → Option Reason
-unless_two layer size a b otherwise = cond (nat_le size a || nat_le size b) (by layer 4) (cond (a == b) (by layer 5) otherwise)
+abbrev pub unless_two_of : Layer → ℕ → ℕ → ℕ → Option Reason → Option Reason
+unless_two_of layer size a b otherwise = cond (nat_le size a || nat_le size b) (by layer 4) (cond (a == b) (by layer 5) otherwise)
 
 -- the first reason to refuse to add a link of a and b
 abbrev pub adding : Graph → Ledger → ℕ → ℕ → Option Reason

@@ -3,7 +3,7 @@
 
 ghost use Rattle.std.specs.Prelude.{◌≡◌, ℕ, None};
 ghost use Rattle.graph.specs.Graph.{Graph, Simple, degree, link_count, Next};
-ghost use Rattle.links.specs.Books.{Ledger, Bounded, Allows, Adds, Removes, unless_two, adding, removing};
+ghost use Rattle.links.specs.Books.{Ledger, Bounded, Allows, Adds, Removes, unless_two_of, adding, removing};
 ghost use Rattle.links.specs.Refusals.{meaning, Answers};
 
 // Why a call is refused. Each case has a number, by which it is known outside.
@@ -161,7 +161,7 @@ pub trait Book: Links {
 
 // Whether a and b are two of `size` loads.
 pub fn check_two(size: usize, a: usize, b: usize, layer: Layer) -> Result<(), Refused>
-    ensures { Answers (unless_two layer size a b None) result (λ _. Unit {0}) }
+    ensures { Answers (unless_two_of layer size a b None) result (λ _. Unit {0}) }
 {
     if a >= size || b >= size {
         return Err(Refused {

@@ -7,7 +7,7 @@ use Rattle.links.specs.declared.Refused.{Refused}
 use Rattle.row.specs.Memory.{both_changed, BothChanged}
 use Rattle.row.specs.Row.{changed}
 use Rattle.row.specs.declared.Change.{Change}
-use Rattle.rows.specs.Rows.{graph_of, ledger_of, RowsMade, book_graph, book_ledger, book_made, Written}
+use Rattle.rows.specs.Rows.{graph_of, ledger_of, RowsMade, book_graph, book_ledger, BookMade, Written}
 use Rattle.rows.specs.declared.SortedRows.{SortedRows}
 use Rattle.rows.proofs.BookChange.{BookAfter}
 
@@ -17,7 +17,7 @@ written_refused change s a b (Err e) err =
     record { size = refl; row_limit = refl; memory = λ _ ok. absurd (both_ways _ refl ok); beyond = λ _ _. refl }
 
 -- the book t, with k links and the changed memory of a book with these limits
-pub stands_after : (change : Change) (t : SortedRows) (k : ℕ) (memory : List ℕ) (a b : ℕ) (g : Graph) (l : Ledger) → BookAfter change t.size t.row_limit t.limit k memory a b g l → t.count ≡ k → BothChanged change t.size t.row_limit a b memory t.rows.now → Stands book_graph book_made book_ledger t g l
+pub stands_after : (change : Change) (t : SortedRows) (k : ℕ) (memory : List ℕ) (a b : ℕ) (g : Graph) (l : Ledger) → BookAfter change t.size t.row_limit t.limit k memory a b g l → t.count ≡ k → BothChanged change t.size t.row_limit a b memory t.rows.now → Stands book_graph BookMade book_ledger t g l
 stands_after change t k memory a b g l after ek both =
     record {
       graph_is = ap (graph_of n d) em ∙ after.graph;

@@ -47,8 +47,8 @@ book_graph s = graph_of s.size s.row_limit s.rows.now
 abbrev pub book_ledger : SortedRows → Ledger
 book_ledger s = ledger_of s.size s.row_limit s.limit s.count s.rows.now
 
-abbrev pub book_made : SortedRows → Type 0
-book_made s = RowsMade s.size s.row_limit s.limit s.count s.rows.now
+abbrev pub BookMade : SortedRows → Type 0
+BookMade s = RowsMade s.size s.row_limit s.limit s.count s.rows.now
 
 -- the first reason not to make a book of n loads with row limit d and this link limit in so much memory
 abbrev pub checking : ℕ → ℕ → ℕ → ℕ → Option Reason
@@ -76,5 +76,5 @@ Making (Some reason) n d limit before s = Fresh 0 0 0 s × (s.rows.now ≡ befor
 pub record Written (change : List ℕ → ℕ → List ℕ) (s : SortedRows) (a b : ℕ) (r : Result Unit Refused) (t : SortedRows) : Type 0 where
   pub size : t.size ≡ s.size
   pub row_limit : t.row_limit ≡ s.row_limit
-  pub memory : book_made s → is_ok r ≡ true → t.rows.now ≡ both_changed change s.row_limit s.rows.now a b
+  pub memory : BookMade s → is_ok r ≡ true → t.rows.now ≡ both_changed change s.row_limit s.rows.now a b
   pub beyond : (k : ℕ) → book_need s ≤ k → slice_index t.rows.now k ≡ slice_index s.rows.now k

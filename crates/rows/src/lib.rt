@@ -7,7 +7,7 @@ ghost use Rattle.links.specs.Books.{Adds, Removes};
 ghost use Rattle.links.specs.Refusals.{Answers};
 ghost use Rattle.row.specs.Row.{row_with, row_without};
 ghost use Rattle.row.specs.Memory.{BothChanged};
-ghost use Rattle.rows.specs.Rows.{Whole, book_row, book_graph, book_ledger, book_made, checking, Making, Written};
+ghost use Rattle.rows.specs.Rows.{Whole, book_row, book_graph, book_ledger, BookMade, checking, Making, Written};
 
 use links::{Allowance, Book, Links, Refusal, Refused, check_add, check_remove};
 use rise::first_unordered;
@@ -44,7 +44,7 @@ impl<'a> SortedRows<'a> {
 
     // Makes a book without links. Where the check would refuse, it has no loads, and the memory stays as it is.
     pub fn new(size: usize, row_limit: usize, limit: usize, rows: &'a mut [u16]) -> SortedRows<'a>
-        ensures made { book_made result }
+        ensures made { BookMade result }
         ensures making { Making (checking size row_limit limit (length rows.old)) size row_limit limit rows.old result }
         ensures lender { result.rows.ghost_name ≡ rows.entry.ghost_name }
     {
@@ -81,7 +81,7 @@ impl SortedRows<'_> {
     // The first load in row a that does not come after the one before it.
     pub fn row_break(&self, a: usize) -> Option<usize>
         ensures first { Whole self.now → MatchOption result (Rises nat_lt (book_row self.now a)) (λ i. FirstUnordered nat_lt (book_row self.now a) i) }
-        ensures none { book_made self.now → result ≡ None }
+        ensures none { BookMade self.now → result ≡ None }
     {
         first_unordered(self.row(a))
     }
@@ -100,7 +100,7 @@ fn change_both(rows: &mut [u16], size: u16, row_limit: u8, a: usize, b: usize, c
 impl Links for SortedRows<'_> {
     ghost graph = { book_graph };
 
-    ghost made = { book_made };
+    ghost made = { BookMade };
 
     fn size(&self) -> usize {
         self.size as usize
@@ -154,7 +154,7 @@ impl Book for SortedRows<'_> {
     }
 
     fn add(&mut self, a: usize, b: usize) -> Result<(), Refused>
-        ensures book { Adds book_graph book_made book_ledger self.old a b result self.new }
+        ensures book { Adds book_graph BookMade book_ledger self.old a b result self.new }
         ensures written { Written row_with self.old a b result self.new }
         ensures lender { self.new.rows.ghost_name ≡ self.old.rows.ghost_name }
     {
@@ -172,7 +172,7 @@ impl Book for SortedRows<'_> {
     }
 
     fn remove(&mut self, a: usize, b: usize) -> Result<(), Refused>
-        ensures book { Removes book_graph book_made book_ledger self.old a b result self.new }
+        ensures book { Removes book_graph BookMade book_ledger self.old a b result self.new }
         ensures written { Written row_without self.old a b result self.new }
         ensures lender { self.new.rows.ghost_name ≡ self.old.rows.ghost_name }
     {

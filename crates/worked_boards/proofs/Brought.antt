@@ -5,7 +5,7 @@ use Rattle.links.specs.Books.{Ledger, Stands, Adds, adding, lowered}
 use Rattle.links.specs.Refusals.{Answers}
 use Rattle.links.specs.declared.Refused.{Refused}
 use Rattle.filter.specs.declared.ClassFilter.{ClassFilter}
-use Rattle.filter.specs.Classes.{filtered, filtered_ledger, filter_graph, filter_made, filter_ledger}
+use Rattle.filter.specs.Classes.{filtered, filtered_ledger, filter_graph, FilterMade, filter_ledger}
 
 module _ {B : Type 0} {graph : B → Graph} {made : B → Type 0} {ledger : B → Ledger} where
   pub add_answers : (s t : B) (g : Graph) (l : Ledger) (a b : ℕ) (r : Result Unit Refused) → Stands graph made ledger s g l → Adds graph made ledger s a b r t →
@@ -17,8 +17,8 @@ module _ {B : Type 0} {graph : B → Graph} {made : B → Type 0} {ledger : B �
 
   -- a filter over a book
   pub behind : (below : B) (f : ClassFilter B) (g : Graph) (l : Ledger) (hid : ℕ → ℕ → Bool) → Stands graph made ledger below g l →
-      (made below → Stands (filter_graph graph) (filter_made made) (filter_ledger graph ledger) f (filtered hid (graph below)) (filtered_ledger hid (graph below).size (ledger below))) →
-      Stands (filter_graph graph) (filter_made made) (filter_ledger graph ledger) f (filtered hid g) (filtered_ledger hid g.size l)
+      (made below → Stands (filter_graph graph) (FilterMade made) (filter_ledger graph ledger) f (filtered hid (graph below)) (filtered_ledger hid (graph below).size (ledger below))) →
+      Stands (filter_graph graph) (FilterMade made) (filter_ledger graph ledger) f (filtered hid g) (filtered_ledger hid g.size l)
   behind below f g l hid stands over =
       let f-stands = over stands.still_made in
       record {

@@ -1,11 +1,11 @@
 use Rattle.std.proofs.Common.{refl}
 use Rattle.graph.specs.Graph.{edgeless}
-use Rattle.rows.specs.Rows.{book_graph, book_ledger, book_made, fresh}
+use Rattle.rows.specs.Rows.{book_graph, book_ledger, BookMade, fresh}
 use Rattle.client.proofs.Played.{granted_then_refused}
 use Rattle.client.proofs.full_row.Goals as goal
 
 pub returns : goal.returns
 returns c =
-    granted_then_refused book_graph book_made book_ledger c.new-book.result c.add-first.new.self c.add-second.new.self (edgeless 3) (fresh 3 1 3) 0 1 0 2 9 c.add-first.result c.add-second.result
+    granted_then_refused book_graph BookMade book_ledger c.new-book.result c.add-first.new.self c.add-second.new.self (edgeless 3) (fresh 3 1 3) 0 1 0 2 9 c.add-first.result c.add-second.result
     (record { graph_is = c.new-book.ensures.making.0.graph; ledger_is = c.new-book.ensures.making.0.ledger; still_made = c.new-book.ensures.made })
     c.add-first.ensures.book c.add-second.ensures.book refl refl

@@ -1,7 +1,7 @@
 use Rattle.std.proofs.Common.{◌≡◌, ◌+◌, refl, arith}
 use Rattle.links.proofs.Reasons.{adding_none, refused_by, kept_same}
 use Rattle.row.specs.declared.Change.TheVariants.{Insert}
-use Rattle.rows.specs.Rows.{book_ledger, book_made}
+use Rattle.rows.specs.Rows.{book_ledger, BookMade}
 use Rattle.rows.proofs.BookAnswers.{written_refused, stands_after}
 use Rattle.rows.proofs.BookChange.{after_adding}
 use Rattle.rows.proofs.SortedRowsBook.add.Goals as goal
@@ -22,10 +22,10 @@ returns-in_err-check_add c =
 
 pub returns : goal.returns
 returns c =
-    let none = λ (made : book_made c.args.self.now).
+    let none = λ (made : BookMade c.args.self.now).
     (c.in_ok-check_add.ensures made (book_ledger c.args.self.now)
     (record { barred = refl; spare_a = c.spare.ensures made; spare_b = c.spare-2.ensures made; room = c.room.ensures made })).0 in
-    let after = λ (made : book_made c.args.self.now). after_adding _ _ _ _ _ made _ _ (adding_none _ _ _ _ (none made)) in
+    let after = λ (made : BookMade c.args.self.now). after_adding _ _ _ _ _ made _ _ (adding_none _ _ _ _ (none made)) in
     record {
       book = record {
         kept = tt;

@@ -1,7 +1,7 @@
 use Rattle.std.proofs.Common.{refl}
 use Rattle.links.proofs.Reasons.{removing_none, refused_by, kept_same}
 use Rattle.row.specs.declared.Change.TheVariants.{Remove}
-use Rattle.rows.specs.Rows.{book_made}
+use Rattle.rows.specs.Rows.{BookMade}
 use Rattle.rows.proofs.BookAnswers.{written_refused, stands_after}
 use Rattle.rows.proofs.BookChange.{after_removing}
 use Rattle.rows.proofs.SortedRowsBook.remove.Goals as goal
@@ -19,8 +19,8 @@ returns-in_err-check_remove c =
 
 pub returns : goal.returns
 returns c =
-    let none = λ (made : book_made c.args.self.now). (c.in_ok-check_remove.ensures made).0 in
-    let after = λ (made : book_made c.args.self.now). after_removing _ _ _ _ _ made _ _ (removing_none _ _ _ (none made)) in
+    let none = λ (made : BookMade c.args.self.now). (c.in_ok-check_remove.ensures made).0 in
+    let after = λ (made : BookMade c.args.self.now). after_removing _ _ _ _ _ made _ _ (removing_none _ _ _ (none made)) in
     record {
       book = record {
         kept = tt;

@@ -1,7 +1,7 @@
 use Rattle.std.proofs.Common.{◌≡◌, None, refl, arith}
 use Rattle.links.specs.Books.{adding}
 use Rattle.links.proofs.Reasons.{Addable, adding_none, refused_by, kept_same, not_granted}
-use Rattle.books.specs.Matrix.{matrix_graph, matrix_made, matrix_ledger}
+use Rattle.books.specs.Matrix.{matrix_graph, MatrixMade, matrix_ledger}
 use Rattle.books.proofs.Writes.{grown}
 use Rattle.books.proofs.bit_matrix.BitMatrixBook.add.Goals as goal
 
@@ -36,9 +36,9 @@ returns c =
       beyond = c.put_link.ensures.beyond;
     }
   where
-    none : matrix_made c.args.self.now → adding (matrix_graph c.args.self.now) (matrix_ledger c.args.self.now) c.args.a c.args.b ≡ None
+    none : MatrixMade c.args.self.now → adding (matrix_graph c.args.self.now) (matrix_ledger c.args.self.now) c.args.a c.args.b ≡ None
     none made =
         (c.in_ok-check_add.ensures made (matrix_ledger c.args.self.now) (record { barred = refl; spare_a = c.spare.ensures made; spare_b = c.spare-2.ensures made; room = c.room.ensures made })).0
 
-    can : matrix_made c.args.self.now → Addable (matrix_graph c.args.self.now) (matrix_ledger c.args.self.now) c.args.a c.args.b
+    can : MatrixMade c.args.self.now → Addable (matrix_graph c.args.self.now) (matrix_ledger c.args.self.now) c.args.a c.args.b
     can made = adding_none (matrix_graph c.args.self.now) (matrix_ledger c.args.self.now) c.args.a c.args.b (none made)

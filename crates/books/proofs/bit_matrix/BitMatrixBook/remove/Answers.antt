@@ -1,6 +1,6 @@
 use Rattle.std.proofs.Common.{refl}
 use Rattle.links.proofs.Reasons.{Removable, removing_none, refused_by, kept_same, not_granted}
-use Rattle.books.specs.Matrix.{matrix_graph, matrix_made}
+use Rattle.books.specs.Matrix.{matrix_graph, MatrixMade}
 use Rattle.books.proofs.Writes.{shrunk}
 use Rattle.books.proofs.bit_matrix.BitMatrixBook.remove.Goals as goal
 
@@ -33,5 +33,5 @@ returns c =
       beyond = c.put_link.ensures.beyond;
     }
   where
-    can : matrix_made c.args.self.now → Removable (matrix_graph c.args.self.now) c.args.a c.args.b
+    can : MatrixMade c.args.self.now → Removable (matrix_graph c.args.self.now) c.args.a c.args.b
     can made = removing_none (matrix_graph c.args.self.now) c.args.a c.args.b (c.in_ok-check_remove.ensures made).0
