@@ -1,6 +1,11 @@
 // What calls answer and what the audit finds, in words for people to read.
 #![tactic(auto)]
 
+ghost use Rattle.std.specs.Prelude.{◌≡◌};
+ghost use Rattle.links.specs.Refusals.{meaning};
+ghost use Rattle.replies.specs.Lines.{layer_name as layer_text};
+ghost use Rattle.telling.specs.Texts.{reason_text};
+
 use audit::{Verdict, audit};
 use links::{Layer, Links, Refusal, Refused};
 use std::io;
@@ -8,7 +13,10 @@ use std::io;
 // No partner.
 pub const NONE: u16 = 65535;
 
-fn reason(refusal: Refusal) -> &'static str {
+// What a refusal means.
+fn reason(refusal: Refusal) -> &'static str
+    ensures { result.now ≡ reason_text (meaning refusal).0 }
+{
     match refusal {
         Refusal::SizeOutOfRange => "there are 1 to 256 loads",
         Refusal::LimitOutOfRange => "the limit is out of its range",
@@ -28,7 +36,9 @@ fn reason(refusal: Refusal) -> &'static str {
     }
 }
 
-fn layer_name(layer: Layer) -> &'static str {
+fn layer_name(layer: Layer) -> &'static str
+    ensures { result.now ≡ layer_text layer }
+{
     match layer {
         Layer::Stream => "stream",
         Layer::Board => "board",
