@@ -2,7 +2,7 @@
 use Rattle.std.specs.Prelude.{◌≡◌, ℕ, List, length, Ok, Result}
 use Rattle.graph.specs.Graph.{Graph}
 use Rattle.graph.specs.Matching.{Matching, NoAugmenting}
-use Rattle.links.specs.declared.Refused.{Refused}
+use Rattle.links.specs.declared.refusal.Refused.{Refused}
 use Rattle.audit.specs.declared.Verdict.{Verdict}
 use Rattle.audit.specs.declared.Verdict.TheVariants.{Sound}
 use Rattle.audit.specs.Claims.{claimed}

@@ -5,8 +5,8 @@ use Rattle.std.specs.Bool.{then_some}
 use Rattle.graph.specs.Graph.{Graph}
 use Rattle.graph.specs.Matching.{Partners}
 use Rattle.links.specs.Refusals.{Reason, Answers}
-use Rattle.links.specs.declared.Layer.TheVariants.{Board}
-use Rattle.links.specs.declared.Refused.{Refused}
+use Rattle.links.specs.declared.refusal.Layer.TheVariants.{Board}
+use Rattle.links.specs.declared.refusal.Refused.{Refused}
 use Rattle.audit.specs.declared.Verdict.{Verdict}
 use Rattle.audit.specs.declared.Verdict.TheVariants.{Sound, NotReturned, NotLinked, PathOfOne, PathOfThree}
 use Rattle.audit.specs.Claims.{claimed, free, passes, returned, and_then}

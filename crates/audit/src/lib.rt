@@ -8,6 +8,7 @@ ghost use Rattle.audit.specs.Soundness.{SoundWhen};
 ghost use Rattle.audit.specs.Steps.{NextBelow, Tells};
 ghost use Rattle.audit.specs.Verdicts.{lowest_not_returned, lowest_not_linked, path_of_one_at, lowest_path_of_one, ends, path_over_at, path_of_three_at, lowest_path_of_three, meaning, verdict, Audits};
 
+use links::walk::linked_loads;
 use links::{Layer, Links, Refusal, Refused};
 
 // What an audit finds: the claims are sound, or the first fault.
@@ -95,14 +96,7 @@ fn next_below<L: Links>(links: &L, n: usize, a: usize, from: usize) -> Option<us
 fn free_neighbour<L: Links>(links: &L, claims: &[u16], a: usize, y: usize) -> Option<usize>
     ensures { L.Links.made links.now → NextBelow (length claims.now) (ends (L.Links.graph links.now) (claimed claims.now) a y) 0 result }
 {
-    let mut from = 0;
-    while let Some(z) = next_below(links, claims.len(), y, from) {
-        if z != a && is_free(claims, z) {
-            return Some(z);
-        }
-        from = z + 1;
-    }
-    None
+    linked_loads(links, y, claims.len()).find(|z| *z != a && is_free(claims, *z))
 }
 
 // The first augmenting path of one link that begins at a.

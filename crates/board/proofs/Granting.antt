@@ -4,8 +4,8 @@ use Rattle.graph.specs.Graph.{Graph, link_count}
 use Rattle.graph.specs.Matching.{Partners, Matching}
 use Rattle.links.specs.Books.{Ledger, Bounded, unless_two_of}
 use Rattle.links.specs.Refusals.{Reason, told}
-use Rattle.links.specs.declared.Layer.TheVariants.{Board as BoardLayer}
-use Rattle.links.specs.declared.Refused.{Refused}
+use Rattle.links.specs.declared.refusal.Layer.TheVariants.{Board as BoardLayer}
+use Rattle.links.specs.declared.refusal.Refused.{Refused}
 use Rattle.links.proofs.Reasons.{two_none, two_refused, two_granted}
 use Rattle.rules.specs.Calls.{Position, Call, reason, unless, granted, after, repaired}
 use Rattle.rules.specs.Health.{Sound}

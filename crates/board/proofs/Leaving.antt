@@ -9,7 +9,7 @@ use Rattle.graph.proofs.Partners.{partner_below}
 use Rattle.graph.proofs.Paths.{linked_apart}
 use Rattle.links.specs.Books.{Ledger, Stands, raised, removing}
 use Rattle.links.specs.Refusals.{Reason}
-use Rattle.links.specs.declared.Layer.TheVariants.{Book}
+use Rattle.links.specs.declared.refusal.Layer.TheVariants.{Book}
 use Rattle.links.proofs.Reasons.{TwoLoads, two_granted}
 use Rattle.rules.specs.Calls.{released}
 use Rattle.rules.specs.Repair.{freed}

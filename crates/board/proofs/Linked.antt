@@ -5,7 +5,7 @@ use Rattle.graph.specs.Graph.{Graph, Simple, added, is_pair}
 use Rattle.graph.specs.Matching.{Partners, Matching}
 use Rattle.graph.proofs.Changes.{added_simple}
 use Rattle.links.specs.Books.{Ledger, Bounded, adding, lowered, Stands as BookStands}
-use Rattle.links.specs.declared.Layer.TheVariants.{Board as BoardLayer}
+use Rattle.links.specs.declared.refusal.Layer.TheVariants.{Board as BoardLayer}
 use Rattle.links.proofs.Reasons.{two_granted, adding_none}
 use Rattle.rules.specs.Calls.{link, in_order}
 use Rattle.rules.specs.Repair.{Ranking, repair}

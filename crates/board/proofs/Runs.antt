@@ -2,7 +2,7 @@
 use Rattle.std.proofs.Common.{◌≡◌, ℕ, ◌≤◌, Result, sym, refl, ◌∙◌, subst}
 use Rattle.graph.specs.Graph.{Graph, link_count}
 use Rattle.links.specs.Books.{Ledger}
-use Rattle.links.specs.declared.Refused.{Refused}
+use Rattle.links.specs.declared.refusal.Refused.{Refused}
 use Rattle.rules.specs.Calls.{Position, Call, reason, after}
 use Rattle.rules.specs.Health.{Follows, changes}
 use Rattle.rules.specs.Laws.{allowed}

@@ -4,7 +4,7 @@ use Rattle.graph.specs.Graph.{Graph, Simple, removed}
 use Rattle.graph.specs.Matching.{Partners}
 use Rattle.graph.proofs.Changes.{removed_simple}
 use Rattle.links.specs.Books.{Ledger, Bounded, removing, raised, Stands as BookStands}
-use Rattle.links.specs.declared.Layer.TheVariants.{Board as BoardLayer}
+use Rattle.links.specs.declared.refusal.Layer.TheVariants.{Board as BoardLayer}
 use Rattle.links.proofs.Reasons.{two_granted, removing_none}
 use Rattle.rules.specs.Calls.{unlink, in_order, parted}
 use Rattle.rules.specs.Repair.{Ranking, repair}

@@ -3,7 +3,7 @@ use Rattle.std.specs.Prelude.{◌≡◌, ℕ, Option, Result}
 use Rattle.graph.specs.Graph.{Graph, Next}
 use Rattle.links.specs.Books.{Ledger}
 use Rattle.links.specs.Refusals.{Answers, Kept}
-use Rattle.links.specs.declared.Refused.{Refused}
+use Rattle.links.specs.declared.refusal.Refused.{Refused}
 use Rattle.rules.specs.Calls.{Position, Call, ask_free_links, reason, after, opened, pairs_of}
 use Rattle.rules.specs.Health.{Sound}
 use Rattle.rules.specs.Repair.{Ranking, free_link}

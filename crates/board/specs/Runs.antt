@@ -3,7 +3,7 @@ use Rattle.std.specs.Prelude.{◌≡◌, ℕ, ◌≤◌, Option, Result}
 use Rattle.graph.specs.Graph.{Graph, Next}
 use Rattle.links.specs.Books.{Ledger}
 use Rattle.links.specs.Refusals.{Answers}
-use Rattle.links.specs.declared.Refused.{Refused}
+use Rattle.links.specs.declared.refusal.Refused.{Refused}
 use Rattle.rules.specs.Calls.{Call, link, unlink, withdraw, depart, ask_partner, ask_free_links, reason, after, partner_of, free_links_of, pairs_of}
 use Rattle.rules.specs.Health.{Healthy, TwoThirds, Follows, changes}
 use Rattle.rules.specs.Laws.{allowed}

@@ -1,7 +1,7 @@
 -- Calls that add, on any book.
 use Rattle.std.proofs.Common.{◌≡◌, ℕ, Bool, true, Some, None, Ok, Err, Option, Result, sym, refl, ap, ◌∙◌, subst, ap₂, arith}
 use Rattle.graph.specs.Graph.{Graph, added}
-use Rattle.links.specs.declared.Refused.{Refused}
+use Rattle.links.specs.declared.refusal.Refused.{Refused}
 use Rattle.links.specs.Books.{Ledger, Stands, Adds, adding, lowered, by_book}
 use Rattle.links.specs.Refusals.{Reason, Answers, told}
 use Rattle.client.specs.Answers.{GrantedThenRefused}

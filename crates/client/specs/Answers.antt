@@ -1,6 +1,6 @@
 -- What a client learns of an answer.
 use Rattle.std.specs.Prelude.{◌≡◌, ℕ, Ok, Result}
-use Rattle.links.specs.declared.Refused.{Refused}
+use Rattle.links.specs.declared.refusal.Refused.{Refused}
 use Rattle.links.specs.Books.{by_book}
 use Rattle.links.specs.Refusals.{Answers}
 

@@ -3,8 +3,8 @@ use Rattle.std.specs.Prelude.{◌≡◌, ℕ, ◌+◌, ◌*◌, ◌/◌, ◌%◌
 use Rattle.std.specs.List.{between}
 use Rattle.links.specs.Books.{by}
 use Rattle.links.specs.Refusals.{Reason, Answers, Kept}
-use Rattle.links.specs.declared.Layer.TheVariants.{Stream}
-use Rattle.links.specs.declared.Refused.{Refused}
+use Rattle.links.specs.declared.refusal.Layer.TheVariants.{Stream}
+use Rattle.links.specs.declared.refusal.Refused.{Refused}
 use Rattle.commands.specs.declared.Command.{Command}
 use Rattle.commands.specs.declared.Command.TheVariants.{Link, Unlink, Withdraw, Depart, Partner}
 use Rattle.commands.specs.declared.Decoded.{Decoded}

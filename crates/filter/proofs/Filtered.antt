@@ -3,7 +3,7 @@ use Rattle.std.proofs.Common.{◌≡◌, ℕ, ◌%◌, ◌<◌, ◌≤◌, Bool,
 use Rattle.std.proofs.lemmas.Bool.{cond-true, cond-false, and_from, and_parts, and_left, and_right, eqb-true, lt-ltb, ltb-true, or_right, or_cases}
 use Rattle.graph.specs.Graph.{Graph, Simple, link_count, added, removed, is_pair}
 use Rattle.links.specs.Books.{Ledger, Bounded, by_book, adding, removing}
-use Rattle.links.specs.declared.Layer.TheVariants.{Book}
+use Rattle.links.specs.declared.refusal.Layer.TheVariants.{Book}
 use Rattle.links.proofs.Reasons.{TwoLoads, two_granted}
 use Rattle.bits.specs.Bit.{bit}
 use Rattle.filter.specs.Classes.{class_of, bars_classes, hidden, filtered, filtered_ledger}

@@ -1,8 +1,8 @@
 -- A change of the book below, seen through a filter.
 use Rattle.std.proofs.Common.{◌≡◌, ℕ, Bool, false, IsErrAnd, Some, None, Ok, Err, Option, Result, ap, ◌∙◌, subst, ap₂}
 use Rattle.graph.specs.Graph.{Graph}
-use Rattle.links.specs.declared.Layer.TheVariants.{Book}
-use Rattle.links.specs.declared.Refused.{Refused}
+use Rattle.links.specs.declared.refusal.Layer.TheVariants.{Book}
+use Rattle.links.specs.declared.refusal.Refused.{Refused}
 use Rattle.links.specs.Books.{Ledger, Stands, Adds, Removes, unless_two_of}
 use Rattle.links.specs.Refusals.{Reason, told, Answers, Kept}
 use Rattle.links.proofs.Reasons.{TwoLoads, two_none, two_refused, refused_by}

@@ -3,7 +3,7 @@ use Rattle.std.specs.Prelude.{◌≡◌, ℕ, zero, suc, ◌<◌, ◌≤◌, Boo
 use Rattle.graph.specs.Graph.{Graph, edgeless}
 use Rattle.links.specs.Books.{by_book}
 use Rattle.links.specs.Refusals.{Reason}
-use Rattle.links.specs.declared.Layer.TheVariants.{Book}
+use Rattle.links.specs.declared.refusal.Layer.TheVariants.{Book}
 use Rattle.rise.specs.Rise.{Rises}
 use Rattle.link_list.specs.declared.Entry.{Entry}
 use Rattle.link_list.specs.declared.LinkList.{LinkList}

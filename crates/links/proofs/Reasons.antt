@@ -4,9 +4,9 @@ use Rattle.std.proofs.lemmas.Bool.{both_ways, cases_Bool, cond-false, or_from, o
 use Rattle.graph.specs.Graph.{Graph}
 use Rattle.links.specs.Books.{Ledger, unless_two_of, adding, removing}
 use Rattle.links.specs.Refusals.{Reason, told, Answers, Kept}
-use Rattle.links.specs.declared.Layer.{Layer}
-use Rattle.links.specs.declared.Layer.TheVariants.{Book}
-use Rattle.links.specs.declared.Refused.{Refused}
+use Rattle.links.specs.declared.refusal.Layer.{Layer}
+use Rattle.links.specs.declared.refusal.Layer.TheVariants.{Book}
+use Rattle.links.specs.declared.refusal.Refused.{Refused}
 
 some_none : (r : Reason) → Some r ≡ None → ⊥
 some_none r e = let z : ◌≡◌ {A = ℕ} 0 1 = cc in omega arith

@@ -1,10 +1,10 @@
 -- What a book allows besides its links, and how it answers a change.
 use Rattle.std.specs.Prelude.{◌≡◌, ℕ, ◌+◌, ◌-◌, ◌<◌, ◌≤◌, Bool, true, cond, ◌||◌, [], Some, None, Option, Result, ◌==◌, nat_le}
 use Rattle.graph.specs.Graph.{Graph, link_count, added, removed}
-use Rattle.links.specs.declared.Layer.{Layer}
-use Rattle.links.specs.declared.Layer.TheVariants.{Book}
+use Rattle.links.specs.declared.refusal.Layer.{Layer}
+use Rattle.links.specs.declared.refusal.Layer.TheVariants.{Book}
 use Rattle.links.specs.declared.Allowance.{Allowance}
-use Rattle.links.specs.declared.Refused.{Refused}
+use Rattle.links.specs.declared.refusal.Refused.{Refused}
 use Rattle.links.specs.Refusals.{Reason, Answers, Kept}
 
 -- the link limit, the barred pairs, how many more links each load may take (its spare), and how many more the book may (its room)

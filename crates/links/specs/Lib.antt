@@ -1,3 +1,5 @@
 pub mod Refusals
 pub mod Books
 pub mod Memory
+pub mod Walks
+pub mod Words

@@ -1,9 +1,9 @@
 -- What a refusal tells.
 use Rattle.std.specs.Prelude.{◌≡◌, ℕ, List, [], ◌∷◌, Some, None, Ok, Err, Option, Result}
-use Rattle.links.specs.declared.Layer.{Layer}
-use Rattle.links.specs.declared.Refusal.{Refusal}
-use Rattle.links.specs.declared.Refusal.TheVariants.{SizeOutOfRange, LimitOutOfRange, WrongLength, NoSuchLoad, SameLoad, AlreadyLinked, NotLinked, Barred, LoadFull, BookFull, NoPartner, UnknownCommand, CutShort, OutputTooShort, BadEntry}
-use Rattle.links.specs.declared.Refused.{Refused}
+use Rattle.links.specs.declared.refusal.Layer.{Layer}
+use Rattle.links.specs.declared.refusal.Refusal.{Refusal}
+use Rattle.links.specs.declared.refusal.Refusal.TheVariants.{SizeOutOfRange, LimitOutOfRange, WrongLength, NoSuchLoad, SameLoad, AlreadyLinked, NotLinked, Barred, LoadFull, BookFull, NoPartner, UnknownCommand, CutShort, OutputTooShort, BadEntry}
+use Rattle.links.specs.declared.refusal.Refused.{Refused}
 
 -- the number of each refusal, and the values that go with it
 abbrev pub meaning : Refusal → ℕ × List ℕ

@@ -4,80 +4,12 @@
 ghost use Rattle.std.specs.Prelude.{◌≡◌, ℕ, None};
 ghost use Rattle.graph.specs.Graph.{Graph, Simple, degree, link_count, Next};
 ghost use Rattle.links.specs.Books.{Ledger, Bounded, Allows, Adds, Removes, unless_two_of, adding, removing};
-ghost use Rattle.links.specs.Refusals.{meaning, Answers};
+ghost use Rattle.links.specs.Refusals.{Answers};
 
-// Why a call is refused. Each case has a number, by which it is known outside.
-#[derive(Clone, Copy, PartialEq, Eq, Debug)]
-pub enum Refusal {
-    // 1: the number of loads is 0 or above 256
-    SizeOutOfRange,
-    // 2: the link limit or the row limit is outside its range
-    LimitOutOfRange,
-    // 3: memory is too short, a stream too long, or a table of partners not of the right length
-    WrongLength,
-    // 4: a number is not below the number of loads
-    NoSuchLoad,
-    // 5: both loads are the same
-    SameLoad,
-    // 6
-    AlreadyLinked,
-    // 7
-    NotLinked,
-    // 8: the pair is barred
-    Barred,
-    // 9: either load has no spare left
-    LoadFull,
-    // 10: the book has no room left
-    BookFull,
-    // 11: a load without a partner cannot depart
-    NoPartner,
-    // 12: a byte that begins no command
-    UnknownCommand,
-    // 13: the stream ends inside a command
-    CutShort,
-    // 14: the output is too short
-    OutputTooShort,
-    // 15: the entry of a list with this index breaks its order or its bounds
-    BadEntry(usize),
-}
+mod refusal;
+pub mod walk;
 
-impl Refusal {
-    pub fn number(self) -> u8
-        ensures { result ≡ (meaning self).0 }
-    {
-        match self {
-            Refusal::SizeOutOfRange => 1,
-            Refusal::LimitOutOfRange => 2,
-            Refusal::WrongLength => 3,
-            Refusal::NoSuchLoad => 4,
-            Refusal::SameLoad => 5,
-            Refusal::AlreadyLinked => 6,
-            Refusal::NotLinked => 7,
-            Refusal::Barred => 8,
-            Refusal::LoadFull => 9,
-            Refusal::BookFull => 10,
-            Refusal::NoPartner => 11,
-            Refusal::UnknownCommand => 12,
-            Refusal::CutShort => 13,
-            Refusal::OutputTooShort => 14,
-            Refusal::BadEntry(_) => 15,
-        }
-    }
-}
-
-// The layer that found a reason to refuse.
-#[derive(Clone, Copy, PartialEq, Eq, Debug)]
-pub enum Layer {
-    Stream,
-    Board,
-    Book,
-}
-
-#[derive(Clone, Copy, PartialEq, Eq, Debug)]
-pub struct Refused {
-    pub refusal: Refusal,
-    pub layer: Layer,
-}
+pub use refusal::{Layer, Refusal, Refused};
 
 // What a book allows for one link: whether it is barred, the spares of both its loads, and the room.
 #[derive(Clone, Copy)]
@@ -86,18 +18,6 @@ pub struct Allowance {
     pub spare_a: usize,
     pub spare_b: usize,
     pub room: usize,
-}
-
-impl Refused {
-    // A refusal that a book finds, or anything else that holds links.
-    pub fn by_book(refusal: Refusal) -> Refused
-        ensures { result ≡ record { refusal = refusal; layer = Layer.Book } }
-    {
-        Refused {
-            refusal,
-            layer: Layer::Book,
-        }
-    }
 }
 
 // Links that can be asked for. What the answers say holds of every value that came from its making; a call is safe
@@ -164,16 +84,10 @@ pub fn check_two(size: usize, a: usize, b: usize, layer: Layer) -> Result<(), Re
     ensures { Answers (unless_two_of layer size a b None) result (λ _. Unit {0}) }
 {
     if a >= size || b >= size {
-        return Err(Refused {
-            refusal: Refusal::NoSuchLoad,
-            layer,
-        });
+        return Err(Refusal::NoSuchLoad.by(layer));
     }
     if a == b {
-        return Err(Refused {
-            refusal: Refusal::SameLoad,
-            layer,
-        });
+        return Err(Refusal::SameLoad.by(layer));
     }
     Ok(())
 }
@@ -189,16 +103,16 @@ pub fn check_add<L: Links>(
 {
     check_two(links.size(), a, b, Layer::Book)?;
     if allowance.barred {
-        return Err(Refused::by_book(Refusal::Barred));
+        return Err(Refusal::Barred.by(Layer::Book));
     }
     if links.linked(a, b) {
-        return Err(Refused::by_book(Refusal::AlreadyLinked));
+        return Err(Refusal::AlreadyLinked.by(Layer::Book));
     }
     if allowance.spare_a == 0 || allowance.spare_b == 0 {
-        return Err(Refused::by_book(Refusal::LoadFull));
+        return Err(Refusal::LoadFull.by(Layer::Book));
     }
     if allowance.room == 0 {
-        return Err(Refused::by_book(Refusal::BookFull));
+        return Err(Refusal::BookFull.by(Layer::Book));
     }
     Ok(())
 }
@@ -211,6 +125,6 @@ pub fn check_remove<L: Links>(links: &L, a: usize, b: usize) -> Result<(), Refus
     if links.linked(a, b) {
         Ok(())
     } else {
-        Err(Refused::by_book(Refusal::NotLinked))
+        Err(Refusal::NotLinked.by(Layer::Book))
     }
 }

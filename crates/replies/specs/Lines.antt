@@ -1,8 +1,8 @@
 -- The lines of text that are answered, as bytes.
 use Rattle.std.specs.Prelude.{◌≡◌, ℕ, cond, List, ◌++◌, length, drop, None, codes, Option, Result, nat_lt}
-use Rattle.links.specs.declared.Layer.{Layer}
-use Rattle.links.specs.declared.Layer.TheVariants.{Stream, Board, Book}
-use Rattle.links.specs.declared.Refused.{Refused}
+use Rattle.links.specs.declared.refusal.Layer.{Layer}
+use Rattle.links.specs.declared.refusal.Layer.TheVariants.{Stream, Board, Book}
+use Rattle.links.specs.declared.refusal.Refused.{Refused}
 use Rattle.links.specs.Books.{by}
 use Rattle.links.specs.Refusals.{Reason, told, Answers, Kept}
 use Rattle.replies.specs.declared.Reply.{Reply}

@@ -1,7 +1,7 @@
 -- Lines written out.
 use Rattle.std.specs.Prelude.{◌≡◌, length, codes}
-use Rattle.links.specs.declared.Layer.TheVariants.{Stream, Board, Book}
-use Rattle.links.specs.declared.Refusal.TheVariants.{SameLoad, LoadFull, UnknownCommand}
+use Rattle.links.specs.declared.refusal.Layer.TheVariants.{Stream, Board, Book}
+use Rattle.links.specs.declared.refusal.Refusal.TheVariants.{SameLoad, LoadFull, UnknownCommand}
 use Rattle.replies.specs.declared.Reply.TheVariants.{Done, Alone, With, No}
 use Rattle.replies.specs.Lines.{line, pair_line}
 

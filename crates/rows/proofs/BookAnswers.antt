@@ -3,7 +3,7 @@ use Rattle.std.proofs.Common.{◌≡◌, ℕ, true, List, is_err, Ok, Err, Resul
 use Rattle.std.proofs.lemmas.Bool.{both_ways}
 use Rattle.graph.specs.Graph.{Graph}
 use Rattle.links.specs.Books.{Ledger, Stands}
-use Rattle.links.specs.declared.Refused.{Refused}
+use Rattle.links.specs.declared.refusal.Refused.{Refused}
 use Rattle.row.specs.Memory.{both_changed, BothChanged}
 use Rattle.row.specs.Row.{changed}
 use Rattle.row.specs.declared.Change.{Change}

@@ -4,7 +4,7 @@ use Rattle.graph.specs.Graph.{Graph, link_count, edgeless}
 use Rattle.links.specs.Books.{Ledger, by_book}
 use Rattle.links.specs.Memory.{Cleared}
 use Rattle.links.specs.Refusals.{Reason}
-use Rattle.links.specs.declared.Refused.{Refused}
+use Rattle.links.specs.declared.refusal.Refused.{Refused}
 use Rattle.row.specs.Row.{has, RowMade}
 use Rattle.row.specs.Memory.{row_of, loads_of_row, both_changed}
 use Rattle.rows.specs.declared.SortedRows.{SortedRows}

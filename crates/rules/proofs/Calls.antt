@@ -6,7 +6,7 @@ use Rattle.graph.proofs.Changes.{added_simple, removed_simple, isolated_simple}
 use Rattle.graph.proofs.Partners.{partner_below}
 use Rattle.links.specs.Books.{Ledger, Bounded, adding, removing}
 use Rattle.links.specs.Refusals.{Reason}
-use Rattle.links.specs.declared.Layer.TheVariants.{Board}
+use Rattle.links.specs.declared.refusal.Layer.TheVariants.{Board}
 use Rattle.links.proofs.Reasons.{two_none, adding_none, removing_none}
 use Rattle.rules.specs.Calls.{Position, Call, link, unlink, withdraw, depart, ask_partner, ask_free_links, ask_pairs, reason, granted, unless, after, opened}
 use Rattle.rules.specs.Health.{Healthy, Sound, Follows}

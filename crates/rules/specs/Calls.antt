@@ -6,7 +6,7 @@ use Rattle.graph.specs.Matching.{Partners}
 use Rattle.graph.specs.Pairs.{is_free, pairs}
 use Rattle.links.specs.Books.{Ledger, lowered, raised, adding, removing}
 use Rattle.links.specs.Refusals.{Reason}
-use Rattle.links.specs.declared.Layer.TheVariants.{Board}
+use Rattle.links.specs.declared.refusal.Layer.TheVariants.{Board}
 use Rattle.rules.specs.Repair.{Ranking, freed, free_link, repair}
 use Rattle.rules.specs.Threshold.{threshold}
 

@@ -4,7 +4,7 @@ use Rattle.graph.specs.Graph.{Graph}
 use Rattle.graph.proofs.Partners.{partner_below}
 use Rattle.links.specs.Books.{Ledger}
 use Rattle.links.specs.Refusals.{Reason}
-use Rattle.links.specs.declared.Refused.{Refused}
+use Rattle.links.specs.declared.refusal.Refused.{Refused}
 use Rattle.rules.specs.Calls.{Position, ask_partner, partner_of, unless}
 use Rattle.rules.specs.Repair.{Ranking}
 use Rattle.tables.specs.Views.{partners_of}

@@ -6,7 +6,7 @@ use Rattle.std.proofs.lemmas.Bool.Decides.{nat_tests}
 use Rattle.graph.specs.Graph.{Graph}
 use Rattle.links.specs.Books.{Ledger}
 use Rattle.links.specs.Refusals.{Reason, told}
-use Rattle.links.specs.declared.Refused.{Refused}
+use Rattle.links.specs.declared.refusal.Refused.{Refused}
 use Rattle.rules.specs.Calls.{Position, reason, after}
 use Rattle.rules.specs.Repair.{Ranking}
 use Rattle.board.specs.Boards.{position, Stands}

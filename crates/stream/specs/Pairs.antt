@@ -3,8 +3,8 @@ use Rattle.std.specs.Prelude.{◌≡◌, ℕ, zero, suc, ◌*◌, ◌%◌, cond,
 use Rattle.graph.specs.Matching.{Partners}
 use Rattle.links.specs.Books.{by}
 use Rattle.links.specs.Refusals.{Reason, Answers, Kept}
-use Rattle.links.specs.declared.Layer.TheVariants.{Stream}
-use Rattle.links.specs.declared.Refused.{Refused}
+use Rattle.links.specs.declared.refusal.Layer.TheVariants.{Stream}
+use Rattle.links.specs.declared.refusal.Refused.{Refused}
 use Rattle.rules.specs.Calls.{Position, pairs_of}
 use Rattle.replies.specs.Lines.{pair_line}
 

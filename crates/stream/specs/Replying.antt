@@ -3,7 +3,7 @@ use Rattle.std.specs.Prelude.{◌≡◌, ℕ, ◌%◌, Some, None, Ok, Err, Opti
 use Rattle.graph.specs.Graph.{Graph}
 use Rattle.links.specs.Books.{Ledger}
 use Rattle.links.specs.Refusals.{Reason}
-use Rattle.links.specs.declared.Refused.{Refused}
+use Rattle.links.specs.declared.refusal.Refused.{Refused}
 use Rattle.rules.specs.Calls.{reason, after}
 use Rattle.rules.specs.Repair.{Ranking}
 use Rattle.board.specs.Boards.{position, Stands}

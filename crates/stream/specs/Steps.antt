@@ -3,8 +3,8 @@ use Rattle.std.specs.Prelude.{◌≡◌, ℕ, ◌+◌, ◌≤◌, cond, List, []
 use Rattle.graph.specs.Graph.{Graph}
 use Rattle.links.specs.Books.{Ledger, by}
 use Rattle.links.specs.Refusals.{Reason, Answers, Kept}
-use Rattle.links.specs.declared.Layer.TheVariants.{Stream}
-use Rattle.links.specs.declared.Refused.{Refused}
+use Rattle.links.specs.declared.refusal.Layer.TheVariants.{Stream}
+use Rattle.links.specs.declared.refusal.Refused.{Refused}
 use Rattle.rules.specs.Calls.{Position, Call, link, unlink, withdraw, depart, ask_partner, reason, after, partner_of}
 use Rattle.rules.specs.Repair.{Ranking}
 use Rattle.board.specs.Boards.{position, Stands}

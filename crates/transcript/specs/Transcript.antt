@@ -2,7 +2,7 @@
 use Rattle.std.specs.Prelude.{◌≡◌, ℕ, zero, suc, ◌+◌, cond, List, [], ◌++◌, length, None, Option, ◌==◌, nat_lt}
 use Rattle.links.specs.Books.{by}
 use Rattle.links.specs.Refusals.{Reason}
-use Rattle.links.specs.declared.Layer.TheVariants.{Stream}
+use Rattle.links.specs.declared.refusal.Layer.TheVariants.{Stream}
 use Rattle.rules.specs.Boards.{by_number, fresh}
 use Rattle.rules.specs.Calls.{Position}
 use Rattle.rules.specs.Repair.{Ranking}

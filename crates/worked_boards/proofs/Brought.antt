@@ -3,7 +3,7 @@ use Rattle.std.proofs.Common.{ℕ, Bool, Result, ap, ◌∙◌, subst, ap₂}
 use Rattle.graph.specs.Graph.{Graph, added}
 use Rattle.links.specs.Books.{Ledger, Stands, Adds, adding, lowered}
 use Rattle.links.specs.Refusals.{Answers}
-use Rattle.links.specs.declared.Refused.{Refused}
+use Rattle.links.specs.declared.refusal.Refused.{Refused}
 use Rattle.filter.specs.declared.ClassFilter.{ClassFilter}
 use Rattle.filter.specs.Classes.{filtered, filtered_ledger, filter_graph, FilterMade, filter_ledger}
 

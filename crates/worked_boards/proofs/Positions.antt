@@ -3,7 +3,7 @@ use Rattle.std.proofs.Common.{◌≡◌, ℕ, ◌≤◌, List, Some, None, Ok, E
 use Rattle.graph.specs.Graph.{Graph}
 use Rattle.links.specs.Books.{Ledger, Stands as BookStands}
 use Rattle.links.specs.Refusals.{Answers, told}
-use Rattle.links.specs.declared.Refused.{Refused}
+use Rattle.links.specs.declared.refusal.Refused.{Refused}
 use Rattle.rules.specs.Boards.{played_by, listed}
 use Rattle.rules.specs.Calls.{Position, Call, reason, after, opened}
 use Rattle.rules.specs.Repair.{Ranking}

@@ -1,9 +1,9 @@
 -- A refusal is known by what it tells.
 use Rattle.std.proofs.Common.{◌≡◌, ℕ, List, [], ◌∷◌, get_or, Some, None, Ok, Err, Option, Result, sym, refl, ap, ◌∙◌, arith}
 use Rattle.links.specs.Refusals.{Reason, Answers, meaning, told}
-use Rattle.links.specs.declared.Refusal.{Refusal}
-use Rattle.links.specs.declared.Refusal.TheVariants.{SizeOutOfRange, LimitOutOfRange, WrongLength, NoSuchLoad, SameLoad, AlreadyLinked, NotLinked, Barred, LoadFull, BookFull, NoPartner, UnknownCommand, CutShort, OutputTooShort, BadEntry}
-use Rattle.links.specs.declared.Refused.{Refused}
+use Rattle.links.specs.declared.refusal.Refusal.{Refusal}
+use Rattle.links.specs.declared.refusal.Refusal.TheVariants.{SizeOutOfRange, LimitOutOfRange, WrongLength, NoSuchLoad, SameLoad, AlreadyLinked, NotLinked, Barred, LoadFull, BookFull, NoPartner, UnknownCommand, CutShort, OutputTooShort, BadEntry}
+use Rattle.links.specs.declared.refusal.Refused.{Refused}
 
 -- those without values, by their numbers from 1
 numbered : List Refusal

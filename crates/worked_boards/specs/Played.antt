@@ -3,7 +3,7 @@ use Rattle.std.specs.Prelude.{◌≡◌, ℕ, ◌≤◌, List, [], ◌∷◌, So
 use Rattle.graph.specs.Graph.{Graph}
 use Rattle.links.specs.Books.{Ledger}
 use Rattle.links.specs.Refusals.{Reason, Answers}
-use Rattle.links.specs.declared.Refused.{Refused}
+use Rattle.links.specs.declared.refusal.Refused.{Refused}
 use Rattle.rules.specs.Boards.{played_by, listed}
 use Rattle.rules.specs.Calls.{Position, Call, link, reason, after}
 use Rattle.rules.specs.Repair.{Ranking}

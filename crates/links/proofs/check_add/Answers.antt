@@ -1,7 +1,7 @@
 use Rattle.std.proofs.Common.{◌≡◌, ℕ, Some, None, subst}
 use Rattle.links.specs.Books.{unless_two_of}
 use Rattle.links.specs.Refusals.{told}
-use Rattle.links.specs.declared.Layer.TheVariants.{Book}
+use Rattle.links.specs.declared.refusal.Layer.TheVariants.{Book}
 use Rattle.links.proofs.Reasons.{two_refused, refused_by}
 use Rattle.links.proofs.check_add.Goals as goal
 

@@ -1,8 +1,8 @@
 use Rattle.std.proofs.Common.{Ok, Err, refl, ap, ◌∙◌}
 use Rattle.graph.specs.Graph.{edgeless, added}
 use Rattle.links.specs.Books.{lowered}
-use Rattle.links.specs.declared.Layer.TheVariants.{Book}
-use Rattle.links.specs.declared.Refusal.TheVariants.{Barred, NotLinked}
+use Rattle.links.specs.declared.refusal.Layer.TheVariants.{Book}
+use Rattle.links.specs.declared.refusal.Refusal.TheVariants.{Barred, NotLinked}
 use Rattle.filter.specs.Classes.{filtered, filtered_ledger}
 use Rattle.rules.specs.Boards.{fresh_ledger}
 use Rattle.rules.specs.Calls.{link, unlink, ask_free_links, reason, free_links_of}

@@ -1,5 +1,5 @@
 use Rattle.std.proofs.Common.{drop, Result}
-use Rattle.links.specs.declared.Refused.{Refused}
+use Rattle.links.specs.declared.refusal.Refused.{Refused}
 use Rattle.board.specs.declared.Board.{Board}
 use Rattle.worked_boards.specs.Played.{Plays}
 use Rattle.worked_boards.proofs.link_all.Given as goal

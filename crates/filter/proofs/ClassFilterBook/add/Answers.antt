@@ -1,6 +1,6 @@
 use Rattle.std.proofs.Common.{Some, sym, refl, ap, ◌∙◌}
 use Rattle.links.specs.Refusals.{told}
-use Rattle.links.specs.declared.Refused.{Refused}
+use Rattle.links.specs.declared.refusal.Refused.{Refused}
 use Rattle.filter.specs.Classes.{hidden}
 use Rattle.filter.proofs.Filtered.{adding_hidden}
 use Rattle.links.proofs.Reasons.{kept_same}

@@ -1,5 +1,5 @@
 use Rattle.std.proofs.Common.{Some, sym, ap, ◌∙◌, arith}
-use Rattle.links.specs.declared.Refused.{Refused}
+use Rattle.links.specs.declared.refusal.Refused.{Refused}
 use Rattle.links.specs.Refusals.{told}
 use Rattle.link_list.specs.Lists.{bad_entry}
 use Rattle.link_list.proofs.Checks.{checking_is, sound_is}

@@ -1,0 +1,153 @@
+// Why a call is refused, and which layer found it.
+ghost use Rattle.std.specs.Prelude.{◌≡◌, Some};
+ghost use Rattle.links.specs.Refusals.{meaning};
+ghost use Rattle.links.specs.Words.{layer_name, reason_text, refused_text};
+
+use std::fmt;
+
+// Why a call is refused. Each case has a number, by which it is known outside.
+#[derive(Clone, Copy, PartialEq, Eq, Debug)]
+pub enum Refusal {
+    // 1: the number of loads is 0 or above 256
+    SizeOutOfRange,
+    // 2: the link limit or the row limit is outside its range
+    LimitOutOfRange,
+    // 3: memory is too short, a stream too long, or a table of partners not of the right length
+    WrongLength,
+    // 4: a number is not below the number of loads
+    NoSuchLoad,
+    // 5: both loads are the same
+    SameLoad,
+    // 6
+    AlreadyLinked,
+    // 7
+    NotLinked,
+    // 8: the pair is barred
+    Barred,
+    // 9: either load has no spare left
+    LoadFull,
+    // 10: the book has no room left
+    BookFull,
+    // 11: a load without a partner cannot depart
+    NoPartner,
+    // 12: a byte that begins no command
+    UnknownCommand,
+    // 13: the stream ends inside a command
+    CutShort,
+    // 14: the output is too short
+    OutputTooShort,
+    // 15: the entry of a list with this index breaks its order or its bounds
+    BadEntry(usize),
+}
+
+impl Refusal {
+    pub fn number(self) -> u8
+        ensures { result ≡ (meaning self).0 }
+    {
+        match self {
+            Refusal::SizeOutOfRange => 1,
+            Refusal::LimitOutOfRange => 2,
+            Refusal::WrongLength => 3,
+            Refusal::NoSuchLoad => 4,
+            Refusal::SameLoad => 5,
+            Refusal::AlreadyLinked => 6,
+            Refusal::NotLinked => 7,
+            Refusal::Barred => 8,
+            Refusal::LoadFull => 9,
+            Refusal::BookFull => 10,
+            Refusal::NoPartner => 11,
+            Refusal::UnknownCommand => 12,
+            Refusal::CutShort => 13,
+            Refusal::OutputTooShort => 14,
+            Refusal::BadEntry(_) => 15,
+        }
+    }
+
+    // The refusal as the layer tells it that found it.
+    pub fn by(self, layer: Layer) -> Refused
+        ensures { result ≡ record { refusal = self; layer = layer } }
+    {
+        Refused {
+            refusal: self,
+            layer,
+        }
+    }
+
+    // What the refusal means, in words.
+    pub fn words(self) -> &'static str
+        ensures { result.now ≡ reason_text (meaning self).0 }
+    {
+        match self {
+            Refusal::SizeOutOfRange => "there are 1 to 256 loads",
+            Refusal::LimitOutOfRange => "the limit is out of its range",
+            Refusal::WrongLength => "the length is wrong",
+            Refusal::NoSuchLoad => "there is no such load",
+            Refusal::SameLoad => "both are the same load",
+            Refusal::AlreadyLinked => "they are linked already",
+            Refusal::NotLinked => "they are not linked",
+            Refusal::Barred => "the pair is barred",
+            Refusal::LoadFull => "a load has no spare left",
+            Refusal::BookFull => "the book has no room left",
+            Refusal::NoPartner => "the load has no partner",
+            Refusal::UnknownCommand => "no command begins so",
+            Refusal::CutShort => "the stream ends inside a command",
+            Refusal::OutputTooShort => "the output is too short",
+            Refusal::BadEntry(_) => "an entry breaks the order or its bounds",
+        }
+    }
+}
+
+impl fmt::Display for Refusal {
+    ghost output = { λ r. Some (reason_text (meaning r).0) };
+
+    fn fmt<W: fmt::Write>(&self, f: &mut fmt::Formatter<W>) -> fmt::Result {
+        f.write_str(self.words())
+    }
+}
+
+// The layer that found a reason to refuse.
+#[derive(Clone, Copy, PartialEq, Eq, Debug)]
+pub enum Layer {
+    Stream,
+    Board,
+    Book,
+}
+
+impl Layer {
+    pub fn name(self) -> &'static str
+        ensures { result.now ≡ layer_name self }
+    {
+        match self {
+            Layer::Stream => "stream",
+            Layer::Board => "board",
+            Layer::Book => "book",
+        }
+    }
+}
+
+impl fmt::Display for Layer {
+    ghost output = { λ l. Some (layer_name l) };
+
+    fn fmt<W: fmt::Write>(&self, f: &mut fmt::Formatter<W>) -> fmt::Result {
+        f.write_str(self.name())
+    }
+}
+
+#[derive(Clone, Copy, PartialEq, Eq, Debug)]
+pub struct Refused {
+    pub refusal: Refusal,
+    pub layer: Layer,
+}
+
+impl fmt::Display for Refused {
+    ghost output = { λ r. Some (refused_text r) };
+
+    fn fmt<W: fmt::Write>(&self, f: &mut fmt::Formatter<W>) -> fmt::Result {
+        let number = self.refusal.number();
+        write!(
+            f,
+            "refused by the {} with {number}, {}",
+            self.layer, self.refusal
+        )
+    }
+}

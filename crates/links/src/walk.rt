@@ -1,0 +1,79 @@
+// Walks over numbers in rising order.
+ghost use Rattle.std.specs.Prelude.{◌≡◌, ℕ, ◌-◌, Bool};
+ghost use Rattle.std.specs.Iterator.{at_most};
+ghost use Rattle.graph.specs.Graph.{Next};
+ghost use Rattle.links.specs.Walks.{Walks, Over};
+
+use crate::Links;
+
+// A set of numbers of which the next at or above another can be asked for. What the answers say holds of every value that
+// came from its making; a call is safe and ends on any other too.
+pub trait Rising {
+    ghost member: { Self → ℕ → Bool };
+
+    // the value came from its making
+    ghost reliable: { Self → Type 0 };
+
+    // The smallest member at or above `from`.
+    fn next_from(&self, from: usize) -> Option<usize>
+        ensures { reliable self.now → Next (member self.now) from result };
+}
+
+// The loads that are linked to a load.
+#[derive(Clone, Copy)]
+pub struct LinkedTo<'a, L> {
+    links: &'a L,
+    load: usize,
+}
+
+impl<L: Links> Rising for LinkedTo<'_, L> {
+    ghost member = { λ s. (L.Links.graph s.links.now).linked s.load };
+
+    ghost reliable = { λ s. L.Links.made s.links.now };
+
+    fn next_from(&self, from: usize) -> Option<usize> {
+        self.links.next_linked(self.load, from)
+    }
+}
+
+// The members of a set from a number on and below another, in rising order.
+#[derive(Drop)]
+pub struct Walk<S> {
+    set: S,
+    from: usize,
+    end: usize,
+}
+
+impl<S: Rising> Walk<S> {
+    pub fn new(set: S, from: usize, end: usize) -> Walk<S>
+        ensures { result ≡ record { set = set; from = from; end = end } }
+    {
+        Walk { set, from, end }
+    }
+}
+
+impl<S: Rising + Drop> Iterator for Walk<S> {
+    type Item = usize;
+
+    ghost next_gives = { Walks S.Rising.reliable S.Rising.member };
+
+    ghost remaining = { λ s. at_most (s.end - s.from) };
+
+    fn next(&mut self) -> Option<usize> {
+        match self.set.next_from(self.from) {
+            Some(x) if self.from <= x && x < self.end => {
+                self.from = x + 1;
+                Some(x)
+            }
+            _ => None,
+        }
+    }
+}
+
+// A walk over the loads below `end` that are linked to a.
+pub fn linked_loads<L: Links>(links: &L, a: usize, end: usize) -> Walk<LinkedTo<'_, L>>
+    ensures over { Over links.now a end result }
+    ensures begins { result.from ≡ 0 }
+{
+    Walk::new(LinkedTo { links, load: a }, 0, end)
+}
