@@ -96,7 +96,12 @@ fn next_below<L: Links>(links: &L, n: usize, a: usize, from: usize) -> Option<us
 fn free_neighbour<L: Links>(links: &L, claims: &[u16], a: usize, y: usize) -> Option<usize>
     ensures { L.Links.made links.now → NextBelow (length claims.now) (ends (L.Links.graph links.now) (claimed claims.now) a y) 0 result }
 {
-    linked_loads(links, y, claims.len()).find(|z| *z != a && is_free(claims, *z))
+    for z in linked_loads(links, y, claims.len()) {
+        if z != a && is_free(claims, z) {
+            return Some(z);
+        }
+    }
+    None
 }
 
 // The first augmenting path of one link that begins at a.
@@ -192,10 +197,7 @@ pub fn audit<L: Links>(links: &L, claims: &[u16]) -> Result<Verdict, Refused>
     ensures sound { L.Links.made links.now → SoundWhen (L.Links.graph links.now) claims.now result }
 {
     if claims.len() != links.size() {
-        return Err(Refused {
-            refusal: Refusal::WrongLength,
-            layer: Layer::Board,
-        });
+        return Err(Refusal::WrongLength.by(Layer::Board));
     }
     Ok(judge(links, claims))
 }

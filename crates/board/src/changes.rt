@@ -8,7 +8,7 @@ ghost use Rattle.board.specs.Boards.{Steps};
 ghost use Rattle.board.specs.Leaving.{RemovesLinks};
 ghost use Rattle.board.specs.Parting.{PartsPartners};
 
-use crate::{Board, by_board, threshold_of};
+use crate::{Board, threshold_of};
 use links::{Book, Layer, Links, Refusal, Refused, check_two};
 use ranking::Ranking;
 use repair::{repair_one, repair_two};
@@ -100,7 +100,7 @@ impl<B: Book, R: Ranking> Board<B, R> {
     {
         self.check_load(a)?;
         let Some(b) = self.tables.partner(a) else {
-            return Err(by_board(Refusal::NoPartner));
+            return Err(Refusal::NoPartner.by(Layer::Board));
         };
         remove_links(&mut self.book, &mut self.tables, a);
         remove_links(&mut self.book, &mut self.tables, b);

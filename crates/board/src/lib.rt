@@ -34,16 +34,6 @@ fn threshold_of(limit: usize) -> usize
     256
 }
 
-// A refusal that the board itself finds.
-fn by_board(refusal: Refusal) -> Refused
-    ensures { result ≡ record { refusal = refusal; layer = Layer.Board } }
-{
-    Refused {
-        refusal,
-        layer: Layer::Board,
-    }
-}
-
 impl<B: Book, R: Ranking> Board<B, R> {
     fn check_load(&self, a: usize) -> Result<(), Refused>
         ensures { B.Links.made self.now.book → Answers (unless_load (B.Links.graph self.now.book) a None) result (λ _. Unit {0}) }
@@ -51,7 +41,7 @@ impl<B: Book, R: Ranking> Board<B, R> {
         if a < self.book.size() {
             Ok(())
         } else {
-            Err(by_board(Refusal::NoSuchLoad))
+            Err(Refusal::NoSuchLoad.by(Layer::Board))
         }
     }
 }

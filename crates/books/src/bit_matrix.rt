@@ -6,7 +6,7 @@ ghost use Rattle.links.specs.Refusals.{Answers};
 ghost use Rattle.books.specs.Matrix.{row_words, all_words, word_at, is_place, is_link_place, matrix_graph, matrix_ledger, MatrixMade, checking, Making, Written, Beyond};
 
 use bits::{bit_of, count_bits, next_bit, with_bit, without_bit};
-use links::{Allowance, Book, Links, Refusal, Refused, check_add, check_remove};
+use links::{Allowance, Book, Layer, Links, Refusal, Refused, check_add, check_remove};
 
 // With w = size / 64 rounded up, load b is bit b mod 64 of word a × w + b / 64, for each link in both directions.
 #[derive(Drop)]
@@ -52,13 +52,13 @@ impl<'a> BitMatrix<'a> {
         ensures { Answers (checking size limit (length words.now)) result (λ _. Unit {0}) }
     {
         if size == 0 || size > 256 {
-            return Err(Refused::by_book(Refusal::SizeOutOfRange));
+            return Err(Refusal::SizeOutOfRange.by(Layer::Book));
         }
         if limit == 0 || limit > 32640 {
-            return Err(Refused::by_book(Refusal::LimitOutOfRange));
+            return Err(Refusal::LimitOutOfRange.by(Layer::Book));
         }
         if words.len() < row_start(size, size) {
-            return Err(Refused::by_book(Refusal::WrongLength));
+            return Err(Refusal::WrongLength.by(Layer::Book));
         }
         Ok(())
     }

@@ -11,10 +11,7 @@ const NONE: u16 = 65535;
 fn lengths(rt: HostRuntime) {
     let mut words = [0u64; 4];
     let book = BitMatrix::new(4, 9, &mut words);
-    let refused = Err(Refused {
-        refusal: Refusal::WrongLength,
-        layer: Layer::Board,
-    });
+    let refused = Err(Refusal::WrongLength.by(Layer::Board));
     assert_eq!(rt; audit(&book, &[NONE; 3]), refused);
     assert_eq!(rt; audit(&book, &[NONE; 5]), refused);
     assert_eq!(rt; audit(&book, &[NONE; 4]), Ok(Verdict::Sound));

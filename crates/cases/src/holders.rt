@@ -7,10 +7,7 @@ use rows::SortedRows;
 use std::test::Fail;
 
 fn by_book(refusal: Refusal) -> Result<(), Refused> {
-    Err(Refused {
-        refusal,
-        layer: Layer::Book,
-    })
+    Err(refusal.by(Layer::Book))
 }
 
 #[test]

@@ -3,10 +3,7 @@ use books::bit_matrix::BitMatrix;
 use links::{Book, Layer, Links, Refusal, Refused};
 
 fn by_book(refusal: Refusal) -> Result<(), Refused> {
-    Err(Refused {
-        refusal,
-        layer: Layer::Book,
-    })
+    Err(refusal.by(Layer::Book))
 }
 
 #[test]

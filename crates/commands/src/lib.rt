@@ -27,15 +27,6 @@ pub struct Decoded {
     pub next: usize,
 }
 
-fn by_stream(refusal: Refusal) -> Refused
-    ensures { result ≡ record { refusal = refusal; layer = Layer.Stream } }
-{
-    Refused {
-        refusal,
-        layer: Layer::Stream,
-    }
-}
-
 impl Command {
     // How many bytes the command has.
     fn size(self) -> usize
@@ -71,7 +62,7 @@ impl Command {
     {
         let n = self.size();
         if out.len() < n {
-            return Err(by_stream(Refusal::OutputTooShort));
+            return Err(Refusal::OutputTooShort.by(Layer::Stream));
         }
         out[..n].copy_from_slice(&self.encode()[..n]);
         Ok(n)
@@ -94,8 +85,8 @@ fn decode(rest: &[u8]) -> Result<Command, Refused>
         [3, a, b, ..] => Ok(Command::Withdraw(load(*a, *b))),
         [4, a, b, ..] => Ok(Command::Depart(load(*a, *b))),
         [5, a, b, ..] => Ok(Command::Partner(load(*a, *b))),
-        [1..=5, ..] => Err(by_stream(Refusal::CutShort)),
-        _ => Err(by_stream(Refusal::UnknownCommand)),
+        [1..=5, ..] => Err(Refusal::CutShort.by(Layer::Stream)),
+        _ => Err(Refusal::UnknownCommand.by(Layer::Stream)),
     }
 }
 
@@ -105,7 +96,7 @@ pub fn read(stream: &[u8], place: usize) -> Result<Option<Decoded>, Refused>
     ensures spanned { Spanned stream.now place result }
 {
     if stream.len() > LONGEST_STREAM {
-        return Err(by_stream(Refusal::WrongLength));
+        return Err(Refusal::WrongLength.by(Layer::Stream));
     }
     if place >= stream.len() {
         return Ok(None);

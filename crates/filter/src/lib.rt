@@ -158,7 +158,7 @@ impl<B: Book> Book for ClassFilter<B> {
     fn add(&mut self, a: usize, b: usize) -> Result<(), Refused> {
         check_two(self.below.size(), a, b, Layer::Book)?;
         if self.hidden(a, b) {
-            return Err(Refused::by_book(Refusal::Barred));
+            return Err(Refusal::Barred.by(Layer::Book));
         }
         self.below.add(a, b)
     }
@@ -166,7 +166,7 @@ impl<B: Book> Book for ClassFilter<B> {
     fn remove(&mut self, a: usize, b: usize) -> Result<(), Refused> {
         check_two(self.below.size(), a, b, Layer::Book)?;
         if self.hidden(a, b) {
-            return Err(Refused::by_book(Refusal::NotLinked));
+            return Err(Refusal::NotLinked.by(Layer::Book));
         }
         self.below.remove(a, b)
     }

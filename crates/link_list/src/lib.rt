@@ -8,7 +8,7 @@ ghost use Rattle.link_list.specs.Entries.{entry_before, in_bounds, joins, touche
 ghost use Rattle.link_list.specs.Lists.{list_graph, ListMade, checking, Sound, Listing};
 ghost use Rattle.std.proofs.Common.{rules};
 
-use links::{Links, Refusal, Refused};
+use links::{Layer, Links, Refusal, Refused};
 use rise::{Precedes, first_unordered};
 
 // The link of the loads a and b, where a is the lower one.
@@ -111,10 +111,10 @@ impl<'a> LinkList<'a> {
         ensures { Answers (checking size entries.now) result (λ _. Sound size entries.now) }
     {
         if size == 0 || size > 256 {
-            return Err(Refused::by_book(Refusal::SizeOutOfRange));
+            return Err(Refusal::SizeOutOfRange.by(Layer::Book));
         }
         match lower(first_unordered(entries), first_out_of_bounds(size, entries)) {
-            Some(index) => Err(Refused::by_book(Refusal::BadEntry(index))),
+            Some(index) => Err(Refusal::BadEntry(index).by(Layer::Book)),
             None => Ok(()),
         }
     }

@@ -1,18 +1,13 @@
 -- The lines of text that are answered, as bytes.
 use Rattle.std.specs.Prelude.{◌≡◌, ℕ, cond, List, ◌++◌, length, drop, None, codes, Option, Result, nat_lt}
-use Rattle.links.specs.declared.refusal.Layer.{Layer}
-use Rattle.links.specs.declared.refusal.Layer.TheVariants.{Stream, Board, Book}
+use Rattle.links.specs.declared.refusal.Layer.TheVariants.{Stream}
 use Rattle.links.specs.declared.refusal.Refused.{Refused}
 use Rattle.links.specs.Books.{by}
+use Rattle.links.specs.Words.{layer_name}
 use Rattle.links.specs.Refusals.{Reason, told, Answers, Kept}
 use Rattle.replies.specs.declared.Reply.{Reply}
 use Rattle.replies.specs.declared.Reply.TheVariants.{Done, Alone, With, No}
 use Rattle.replies.specs.Digits.{digits, two_digits}
-
-abbrev pub layer_name : Layer → List ℕ
-layer_name Stream = codes "stream"
-layer_name Board = codes "board"
-layer_name Book = codes "book"
 
 -- a reason to refuse, with the place of the command byte
 abbrev pub refusal_words : Reason → ℕ → List ℕ

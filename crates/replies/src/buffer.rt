@@ -67,10 +67,7 @@ impl Buffer {
         ensures { Writes (text self.now) out.old result out.new }
     {
         if out.len() < self.len {
-            return Err(Refused {
-                refusal: Refusal::OutputTooShort,
-                layer: Layer::Stream,
-            });
+            return Err(Refusal::OutputTooShort.by(Layer::Stream));
         }
         out[0..self.len].copy_from_slice(&self.bytes[0..self.len]);
         Ok(self.len)

@@ -4,11 +4,11 @@
 ghost use Rattle.std.specs.Prelude.{◌≡◌, ◌≤◌, length};
 ghost use Rattle.replies.specs.Buffers.{Appends};
 ghost use Rattle.replies.specs.Digits.{DigitsDecimal, TwoDigitsDecimal};
-ghost use Rattle.replies.specs.Lines.{layer_name, words, line, pair_line, Writes};
+ghost use Rattle.replies.specs.Lines.{words, line, pair_line, Writes};
 ghost use Rattle.replies.specs.Worked.{WorkedLines};
 
 use buffer::Buffer;
-use links::{Layer, Refused};
+use links::Refused;
 
 mod buffer;
 
@@ -52,22 +52,11 @@ impl Reply {
                 buffer.push_text(b"no ");
                 buffer.push_two_digits(refused.refusal.number());
                 buffer.push(b' ');
-                buffer.push_text(name_of(refused.layer));
+                buffer.push_text(refused.layer.name().as_bytes());
                 buffer.push(b' ');
                 buffer.push_number(place);
             }
         }
-    }
-}
-
-fn name_of(layer: Layer) -> &'static [u8]
-    ensures value { result.now ≡ layer_name layer }
-    ensures short { length (layer_name layer) ≤ 6 }
-{
-    match layer {
-        Layer::Stream => b"stream",
-        Layer::Board => b"board",
-        Layer::Book => b"book",
     }
 }
 

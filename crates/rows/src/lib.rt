@@ -9,7 +9,7 @@ ghost use Rattle.row.specs.Row.{row_with, row_without};
 ghost use Rattle.row.specs.Memory.{BothChanged};
 ghost use Rattle.rows.specs.Rows.{Whole, book_row, book_graph, book_ledger, BookMade, checking, Making, Written};
 
-use links::{Allowance, Book, Links, Refusal, Refused, check_add, check_remove};
+use links::{Allowance, Book, Layer, Links, Refusal, Refused, check_add, check_remove};
 use rise::first_unordered;
 use row::{Change, change_row, position, row_loads};
 
@@ -31,13 +31,13 @@ impl<'a> SortedRows<'a> {
         ensures { Answers (checking size row_limit limit (length rows.now)) result (λ _. Unit {0}) }
     {
         if size == 0 || size > 256 {
-            return Err(Refused::by_book(Refusal::SizeOutOfRange));
+            return Err(Refusal::SizeOutOfRange.by(Layer::Book));
         }
         if limit == 0 || limit > 32640 || row_limit == 0 || row_limit > 255 {
-            return Err(Refused::by_book(Refusal::LimitOutOfRange));
+            return Err(Refusal::LimitOutOfRange.by(Layer::Book));
         }
         if rows.len() < size * (row_limit + 1) {
-            return Err(Refused::by_book(Refusal::WrongLength));
+            return Err(Refusal::WrongLength.by(Layer::Book));
         }
         Ok(())
     }

@@ -29,15 +29,6 @@ pub struct Stepped {
     pub written: usize,
 }
 
-fn by_stream(refusal: Refusal) -> Refused
-    ensures { result ≡ record { refusal = refusal; layer = Layer.Stream } }
-{
-    Refused {
-        refusal,
-        layer: Layer::Stream,
-    }
-}
-
 // A load in a byte: there are at most 256.
 fn narrow(load: usize) -> u8
     ensures { result ≡ load % 256 }
@@ -81,10 +72,10 @@ fn check_step(stream: &[u8], out: &[u8]) -> Result<(), Refused>
     ensures { Answers (stepping stream.now out.now) result (λ _. Unit {0}) }
 {
     if stream.len() > LONGEST_STREAM {
-        return Err(by_stream(Refusal::WrongLength));
+        return Err(Refusal::WrongLength.by(Layer::Stream));
     }
     if out.len() < LONGEST_LINE {
-        return Err(by_stream(Refusal::OutputTooShort));
+        return Err(Refusal::OutputTooShort.by(Layer::Stream));
     }
     Ok(())
 }
@@ -131,7 +122,7 @@ pub fn list_pairs<B: Book, R: Ranking>(
     ensures within { IfOk result (λ n. n ≤ length out.old) }
 {
     if out.len() / LONGEST_PAIR < board.pairs() {
-        return Err(by_stream(Refusal::OutputTooShort));
+        return Err(Refusal::OutputTooShort.by(Layer::Stream));
     }
     let mut written = 0;
     for a in 0..board.book().size().min(256) {

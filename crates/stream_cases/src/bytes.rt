@@ -3,13 +3,6 @@ use commands::{Command, Decoded, read};
 use links::{Layer, Refusal, Refused};
 use std::process::Abort;
 
-fn by_stream(refusal: Refusal) -> Refused {
-    Refused {
-        refusal,
-        layer: Layer::Stream,
-    }
-}
-
 fn check_read(rt: &impl Abort, stream: &[u8], place: usize, command: Command, next: usize) {
     assert_eq!(rt; read(stream, place), Ok(Some(Decoded { command, next })));
 }
@@ -19,7 +12,7 @@ fn check_none(rt: &impl Abort, stream: &[u8], place: usize) {
 }
 
 fn check_refused(rt: &impl Abort, stream: &[u8], place: usize, refusal: Refusal) {
-    assert_eq!(rt; read(stream, place), Err(by_stream(refusal)));
+    assert_eq!(rt; read(stream, place), Err(refusal.by(Layer::Stream)));
 }
 
 // A command is written as these bytes, and read back where they begin a stream and where they end it.
@@ -63,7 +56,7 @@ fn check_write<const N: usize>(
 // An output one byte short stays as it was, one that is just long enough is filled, and bytes beyond the command stay.
 #[test]
 fn outputs(rt: HostRuntime) {
-    let refused = Err(by_stream(Refusal::OutputTooShort));
+    let refused = Err(Refusal::OutputTooShort.by(Layer::Stream));
     check_write(&rt, Command::Link(1, 2), refused, [7; 4]);
     check_write(&rt, Command::Link(1, 2), Ok(5), [1, 0, 1, 0, 2]);
     check_write(&rt, Command::Withdraw(8), refused, [7; 2]);

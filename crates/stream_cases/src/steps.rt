@@ -8,13 +8,6 @@ use std::process::Abort;
 use std::test::Fail;
 use stream::{Stepped, list_pairs, step};
 
-fn by_stream(refusal: Refusal) -> Refused {
-    Refused {
-        refusal,
-        layer: Layer::Stream,
-    }
-}
-
 // Links 0 and 1.
 const LINK: [u8; 5] = [1, 0, 0, 0, 1];
 
@@ -38,7 +31,7 @@ fn check_step<B: Book, R: Ranking, const N: usize>(
 fn outputs(rt: HostRuntime) {
     let mut words = [0u64; 4];
     let mut board = Board::open(BitMatrix::new(4, 9, &mut words), ByNumber);
-    let refused = Err(by_stream(Refusal::OutputTooShort));
+    let refused = Err(Refusal::OutputTooShort.by(Layer::Stream));
     check_step(&rt, &mut board, &LINK, 0, refused, [b'.'; 18]);
     for place in [5, 6, usize::MAX] {
         let nothing = Ok(Stepped { place, written: 0 });
@@ -64,7 +57,7 @@ fn longest(rt: HostRuntime) -> Result<(), Fail> {
         65_535,
         "no 12 stream 65535\n",
     )?;
-    let refused = Err(by_stream(Refusal::WrongLength));
+    let refused = Err(Refusal::WrongLength.by(Layer::Stream));
     check_step(&rt, &mut board, &bytes, 0, refused, [b'.'; 18]);
     Ok(())
 }
@@ -84,7 +77,7 @@ fn check_list<B: Book, R: Ranking, const N: usize>(
 // None, one and two pairs on a book of 256 loads.
 fn check_lists<B: Book + Drop>(rt: &impl Abort, book: B) -> Result<(), Fail> {
     let mut board = Board::open(book, ByNumber);
-    let refused = Err(by_stream(Refusal::OutputTooShort));
+    let refused = Err(Refusal::OutputTooShort.by(Layer::Stream));
     check_list(rt, &board, Ok(0), []);
     board.link(255, 254)?;
     check_list(rt, &board, refused, [b'.'; 7]);
