@@ -1,19 +1,9 @@
 -- A row after a load was put in or taken out, as the code does it.
-use Rattle.std.proofs.Common.{◌≡◌, ℕ, zero, suc, ◌+◌, ◌-◌, ◌<◌, min, List, [], ◌∷◌, ◌++◌, length, get_or, take, drop, set, sym, ap, ◌∙◌, ap₂, ⊎_elim, arith}
+use Rattle.std.proofs.Common.{◌≡◌, ℕ, zero, suc, ◌+◌, ◌-◌, ◌<◌, List, [], ◌∷◌, ◌++◌, length, get_or, take, drop, set, ap, ◌∙◌, ap₂, arith}
 use borrow.Rule.Slice.PartMut.{put_mid}
 use Rattle.std.specs.List.{insert, remove}
-use Rattle.std.proofs.lemmas.List.{take_all, take-take, drop-take, drop_more, set_at, length-take-le, append_assoc}
-use Rattle.std.proofs.lemmas.Bool.{cases_lt}
+use Rattle.std.proofs.lemmas.List.{take-take, drop-take, drop_more, set_at, length-take-le, append_assoc}
 use Rattle.row.specs.Row.{entries, place, row_with, row_without}
-
-pub take_min : (xs : List ℕ) (n : ℕ) → take (min (length xs) n) xs ≡ take n xs
-take_min xs n =
-    ⊎_elim
-    (λ l. let e : min (length xs) n ≡ n = omega arith in ap (λ (k : ℕ). take k xs) e)
-    (λ l.
-    let e : min (length xs) n ≡ length xs = omega arith in
-    ap (λ (k : ℕ). take k xs) e ∙ take_all (length xs) xs (omega arith) ∙ sym (take_all n xs l))
-    (cases_lt n (length xs))
 
 -- the part of m + 1 numbers from p on, turned by one to the right, then b over its first
 inserts : (p c m : ℕ) (t : List ℕ) (b : ℕ) (turned : List ℕ) → c ≡ p + m → c < length t → turned ≡ drop m (take (m + 1) (drop p t)) ++ take m (take (m + 1) (drop p t)) → set (put_mid p (m + 1) t turned) p b ≡ insert (take c t) p b ++ drop (suc c) t

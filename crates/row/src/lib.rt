@@ -5,7 +5,7 @@ ghost use Rattle.std.specs.Prelude.{◌≡◌, ◌+◌, ◌*◌, ◌≤◌, leng
 ghost use Rattle.row.specs.Row.{entries, place, Insertable, row_with, Removable, row_without, Able, changed};
 ghost use Rattle.row.specs.Memory.{loads_of_row, RowChanged};
 
-// What can be done with a load in a row.
+// What can be done with a load in a row. A closure in its place would need clauses in each function that hands it on.
 #[derive(Clone, Copy)]
 pub enum Change {
     Insert,

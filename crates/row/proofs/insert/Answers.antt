@@ -1,6 +1,6 @@
 use Rattle.std.proofs.Common.{◌≡◌, ℕ, ◌+◌, ◌-◌, ◌≤◌, List, ◌++◌, length, get_or, take, drop, ap, ◌∙◌, arith, rules}
 use Rattle.std.proofs.lemmas.List.{length-take-le, length-drop}
-use Rattle.row.specs.Row.{entries, place}
+use Rattle.row.specs.Row.{place}
 use Rattle.row.proofs.RowChange.{row_inserted}
 use Rattle.row.proofs.insert.Goals as goal
 
