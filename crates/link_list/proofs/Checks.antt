@@ -1,16 +1,39 @@
 -- What the check of a list finds.
-use Rattle.std.proofs.Common.{◌≡◌, ℕ, ◌<◌, ◌≤◌, false, ◌||◌, List, [], length, Some, None, Option, sym, refl, ap, ◌∙◌, ap₂, ⊎_elim, arith, MatchOption}
+use Rattle.std.proofs.Common.{◌≡◌, ℕ, ◌<◌, ◌≤◌, Bool, false, ◌||◌, List, [], length, Some, None, Option, sym, refl, ap, ◌∙◌, ap₂, subst, ⊎_elim, arith, MatchOption}
 use Rattle.std.proofs.lemmas.Bool.{cases_lt, lt-ltb, le-ltb, and_from, and_left, and_right, not-false, not_from_true, not_from_false}
 use Rattle.std.proofs.lemmas.Bool.Decides.{nat_tests}
-use Rattle.rise.specs.Rise.{InOrder, Rises, FirstUnordered}
+use Rattle.std.specs.declared.cmp.Ordering.{Ordering}
+use Rattle.std.specs.Ordering.{nat_cmp, on, then_cmp}
+use Rattle.rise.specs.Rise.{comes_before, StrictTotal, InOrder, Rises, FirstUnordered}
 use Rattle.link_list.specs.declared.Entry.{Entry}
 use Rattle.link_list.specs.Entries.{entry_before, unordered, out_of_bounds, lower_of, first}
 use Rattle.link_list.specs.Lists.{Sound, checking, bad_entry}
 use Rattle.link_list.proofs.Firsts.{first_none, first_some, none_first, lower_first, never}
 
+-- the order of the entries, by a and then by b
+abbrev pub entry_cmp : Entry → Entry → Ordering
+entry_cmp = then_cmp (on (λ (e : Entry). e.a) nat_cmp) (on (λ (e : Entry). e.b) nat_cmp)
+
+entry_order : comes_before entry_cmp ≡ entry_before
+entry_order = λ i e f. same e f i
+  where
+    same : (e f : Entry) → comes_before entry_cmp e f ≡ entry_before e f
+    same e f = grind (arith, nat_tests)
+
+pub entry_strict : StrictTotal {X = Entry} ◌≡◌ entry_before
+entry_strict =
+    record {
+      irreflexive = λ e. grind (arith, nat_tests);
+      transitive = λ e f g h k. grind (arith, nat_tests);
+      total = λ e f h k. grind (arith, nat_tests);
+    }
+
 -- what the test of strict rise answers
 abbrev RiseFound : List Entry → Option ℕ → Type 0
 RiseFound es o = MatchOption o (Rises entry_before es) (λ i. FirstUnordered entry_before es i)
+
+pub rise_found : (es : List Entry) (o : Option ℕ) → MatchOption o (Rises (comes_before entry_cmp) es) (λ i. FirstUnordered (comes_before entry_cmp) es i) → RiseFound es o
+rise_found es o = subst (λ (before : Entry → Entry → Bool). MatchOption o (Rises before es) (λ i. FirstUnordered before es i)) entry_order
 
 first_unordered_is : (es : List Entry) (o : Option ℕ) → RiseFound es o → o ≡ first (length es) (unordered es)
 first_unordered_is es o found = sym (by_cases o found)

@@ -4,37 +4,17 @@
 ghost use Rattle.std.specs.Prelude.{◌≡◌, length};
 ghost use Rattle.graph.specs.Graph.{Next};
 ghost use Rattle.links.specs.Refusals.{Answers};
-ghost use Rattle.link_list.specs.Entries.{entry_before, in_bounds, joins, touches, lower_of, first, out_of_bounds};
+ghost use Rattle.link_list.specs.Entries.{in_bounds, joins, touches, lower_of, first, out_of_bounds};
 ghost use Rattle.link_list.specs.Lists.{list_graph, ListMade, checking, Sound, Listing};
-ghost use Rattle.std.proofs.Common.{rules};
 
 use links::{Layer, Links, Refusal, Refused};
-use rise::{Precedes, first_unordered};
+use rise::first_unordered;
 
-// The link of the loads a and b, where a is the lower one.
-#[derive(Clone, Copy, PartialEq, Eq, Debug)]
+// The link of the loads a and b, where a is the lower one. Entries are ordered by a, and then by b.
+#[derive(Clone, Copy, PartialEq, Eq, PartialOrd, Ord, Debug)]
 pub struct Entry {
     pub a: u16,
     pub b: u16,
-}
-
-// By a, and then by b.
-impl Precedes for Entry {
-    ghost before = { entry_before };
-
-    ghost irreflexive = { Prim.search rules };
-
-    ghost transitive = { Prim.search rules };
-
-    ghost total = { Prim.search rules };
-
-    fn precedes(&self, other: &Entry) -> bool {
-        if self.a == other.a {
-            self.b < other.b
-        } else {
-            self.a < other.a
-        }
-    }
 }
 
 impl Entry {

@@ -51,10 +51,7 @@ impl ByDetour<'_> {
     fn place(&self, load: usize) -> Place
         ensures { result ≡ place_of self.now.places.now load }
     {
-        match self.places.get(load) {
-            Some(place) => *place,
-            None => Place::ORIGIN,
-        }
+        self.places.get(load).copied().unwrap_or(Place::ORIGIN)
     }
 
     // How far the places of two loads lie apart.
@@ -70,9 +67,7 @@ impl Ranking for ByDetour<'_> {
     ghost before = { λ r. nearer r.places.now };
 
     fn comes_first(&self, a: usize, x: usize, y: usize) -> bool {
-        let to_x = self.detour(a, x);
-        let to_y = self.detour(a, y);
-        if to_x == to_y { x < y } else { to_x < to_y }
+        (self.detour(a, x), x) < (self.detour(a, y), y)
     }
 }
 

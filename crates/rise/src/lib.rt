@@ -1,47 +1,24 @@
 // The test of strict rise, for every kind of record that has an order.
 #![tactic(auto)]
 
-ghost use Rattle.std.specs.Prelude.{◌≡◌, Bool, true, false, MatchOption, nat_lt};
-ghost use Rattle.rise.specs.Rise.{Rises, FirstUnordered};
-ghost use Rattle.std.proofs.Common.{rules};
+ghost use Rattle.std.specs.Prelude.{◌≡◌, ◌<◌, length, IfSome, MatchOption};
+ghost use Rattle.rise.specs.Rise.{Rises, FirstUnordered, StrictTotal, Tied, comes_before, first_break};
 
-// Records of which one can come before another: a strict total order.
-pub trait Precedes {
-    ghost before: { Self → Self → Bool };
-
-    fn precedes(&self, other: &Self) -> bool
-        ensures { result ≡ before self.now other.now };
-
-    ghost irreflexive: { (x : Self) → before x x ≡ false };
-
-    ghost transitive: { (x y z : Self) → before x y ≡ true → before y z ≡ true → before x z ≡ true };
-
-    // of two different records one comes before the other
-    ghost total: { (x y : Self) → before x y ≡ false → before y x ≡ false → x ≡ y };
-}
-
-impl Precedes for u16 {
-    ghost before = { nat_lt };
-
-    ghost irreflexive = { Prim.search rules };
-
-    ghost transitive = { Prim.search rules };
-
-    ghost total = { Prim.search rules };
-
-    fn precedes(&self, other: &u16) -> bool {
-        *self < *other
-    }
+// The first index whose record does not come before the next.
+fn first_break<T: Ord>(records: &[T]) -> Option<usize>
+    ensures value { result ≡ first_break (comes_before T.cmp) records.now }
+    ensures bound { IfSome result (λ k. k < length records.now) }
+{
+    records
+        .iter()
+        .zip(records.iter().skip(1))
+        .position(|(x, y)| x >= y)
 }
 
 // The first index whose record does not come after the record before it.
-pub fn first_unordered<T: Precedes>(records: &[T]) -> Option<usize>
-    ensures { MatchOption result (Rises T.Precedes.before records.now) (λ i. FirstUnordered T.Precedes.before records.now i) }
+pub fn first_unordered<T: Ord>(records: &[T]) -> Option<usize>
+    ensures first { MatchOption result (Rises (comes_before T.cmp) records.now) (λ i. FirstUnordered (comes_before T.cmp) records.now i) }
+    ensures ordered { StrictTotal (Tied T.cmp) (comes_before T.cmp) }
 {
-    for i in 1..records.len() {
-        if !records[i - 1].precedes(&records[i]) {
-            return Some(i);
-        }
-    }
-    None
+    first_break(records).map(|k| k + 1)
 }

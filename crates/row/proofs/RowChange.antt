@@ -1,19 +1,9 @@
 -- A row after a load was put in or taken out, as the code does it.
-use Rattle.std.proofs.Common.{◌≡◌, ℕ, zero, suc, ◌+◌, ◌-◌, ◌<◌, min, List, [], ◌∷◌, ◌++◌, length, get_or, take, drop, set, sym, ap, ◌∙◌, ap₂, ⊎_elim, arith}
+use Rattle.std.proofs.Common.{◌≡◌, ℕ, zero, suc, ◌+◌, ◌-◌, ◌<◌, List, [], ◌∷◌, ◌++◌, length, get_or, take, drop, set, ap, ◌∙◌, ap₂, arith}
 use borrow.Rule.Slice.PartMut.{put_mid}
 use Rattle.std.specs.List.{insert, remove}
-use Rattle.std.proofs.lemmas.List.{take_all, take-take, drop-take, drop_more, set_at, length-take-le, append_assoc}
-use Rattle.std.proofs.lemmas.Bool.{cases_lt}
+use Rattle.std.proofs.lemmas.List.{take-take, drop-take, drop_more, set_at, length-take-le, append_assoc}
 use Rattle.row.specs.Row.{entries, place, row_with, row_without}
-
-pub take_min : (xs : List ℕ) (n : ℕ) → take (min (length xs) n) xs ≡ take n xs
-take_min xs n =
-    ⊎_elim
-    (λ l. let e : min (length xs) n ≡ n = omega arith in ap (λ (k : ℕ). take k xs) e)
-    (λ l.
-    let e : min (length xs) n ≡ length xs = omega arith in
-    ap (λ (k : ℕ). take k xs) e ∙ take_all (length xs) xs (omega arith) ∙ sym (take_all n xs l))
-    (cases_lt n (length xs))
 
 -- the part of m + 1 numbers from p on, turned by one to the right, then b over its first
 inserts : (p c m : ℕ) (t : List ℕ) (b : ℕ) (turned : List ℕ) → c ≡ p + m → c < length t → turned ≡ drop m (take (m + 1) (drop p t)) ++ take m (take (m + 1) (drop p t)) → set (put_mid p (m + 1) t turned) p b ≡ insert (take c t) p b ++ drop (suc c) t
@@ -44,23 +34,25 @@ removes (suc p) (suc c) m [] turned e room turn = absurd (omega arith)
 removes (suc p) (suc c) m (x ∷ t) turned e room turn =
     ap (λ (ys : List ℕ). x ∷ ys) (removes p c m t turned (omega arith) (omega arith) turn)
 
-pub row_inserted : (row : List ℕ) (i k p m b : ℕ) (turned : List ℕ) → i ≡ suc p → k ≡ m + 1 → get_or row 0 0 ≡ p + m → get_or row 0 0 + 1 < length row → p ≡ place (entries row) b → turned ≡ drop m (take k (drop i row)) ++ take m (take k (drop i row)) → set (set (put_mid i k row turned) i b) 0 (get_or row 0 0 + 1) ≡ row_with row b
-row_inserted [] i k p m b turned ei ek ec room first turn = absurd (omega arith)
-row_inserted (c ∷ t) i k p m b turned ei ek ec room first turn =
+pub row_inserted : (row : List ℕ) (n i k p m b : ℕ) (turned : List ℕ) → n ≡ get_or row 0 0 → i ≡ suc p → k ≡ m + 1 → n ≡ p + m → n + 1 < length row → p ≡ place (entries row) b → turned ≡ drop m (take k (drop i row)) ++ take m (take k (drop i row)) → set (set (put_mid i k row turned) i b) 0 (n + 1) ≡ row_with row b
+row_inserted [] n i k p m b turned en ei ek ec room first turn = absurd (omega arith)
+row_inserted (c ∷ t) n i k p m b turned en ei ek ec room first turn =
     let turned-is : turned ≡ drop m (take (m + 1) (drop p t)) ++ take m (take (m + 1) (drop p t)) =
     turn ∙ ap₂ (λ (x y : ℕ). drop m (take x (drop y (c ∷ t))) ++ take m (take x (drop y (c ∷ t)))) ek ei in
-    let past : suc (suc c) ≡ c + 2 = omega arith in
-    ap₂ (λ (x y : ℕ). set (set (put_mid y x (c ∷ t) turned) y b) 0 (c + 1)) ek ei
-    ∙ ap (λ (ys : List ℕ). (c + 1) ∷ ys) (inserts p c m t b turned ec (omega arith) turned-is)
-    ∙ ap₂ (λ (x y : ℕ). (c + 1) ∷ (insert (take c t) x b ++ drop y (c ∷ t))) first past
+    let past : suc (suc n) ≡ c + 2 = omega arith in
+    ap₂ (λ (x y : ℕ). set (set (put_mid y x (c ∷ t) turned) y b) 0 (n + 1)) ek ei
+    ∙ ap (λ (ys : List ℕ). (n + 1) ∷ ys) (inserts p n m t b turned ec (omega arith) turned-is)
+    ∙ ap₂ (λ (x y : ℕ). (n + 1) ∷ (insert (take n t) x b ++ drop y (c ∷ t))) first past
+    ∙ ap (λ (x : ℕ). (x + 1) ∷ (insert (take x t) (place (take c t) b) b ++ drop (c + 2) (c ∷ t))) en
 
-pub row_removed : (row : List ℕ) (i k p m b : ℕ) (turned : List ℕ) → i ≡ suc p → k ≡ m + 1 → get_or row 0 0 ≡ p + m + 1 → get_or row 0 0 < length row → p ≡ place (entries row) b → turned ≡ drop 1 (take k (drop i row)) ++ take 1 (take k (drop i row)) → set (set (put_mid i k row turned) (get_or row 0 0) 0) 0 (get_or row 0 0 - 1) ≡ row_without row b
-row_removed [] i k p m b turned ei ek ec room first turn = absurd (omega arith)
-row_removed (zero ∷ t) i k p m b turned ei ek ec room first turn = absurd (omega arith)
-row_removed (suc c ∷ t) i k p m b turned ei ek ec room first turn =
+pub row_removed : (row : List ℕ) (n i k p m b : ℕ) (turned : List ℕ) → n ≡ get_or row 0 0 → i ≡ suc p → k ≡ m + 1 → n ≡ p + m + 1 → n < length row → p ≡ place (entries row) b → turned ≡ drop 1 (take k (drop i row)) ++ take 1 (take k (drop i row)) → set (set (put_mid i k row turned) n 0) 0 (n - 1) ≡ row_without row b
+row_removed [] n i k p m b turned en ei ek ec room first turn = absurd (omega arith)
+row_removed (c ∷ t) zero i k p m b turned en ei ek ec room first turn = absurd (omega arith)
+row_removed (c ∷ t) (suc n) i k p m b turned en ei ek ec room first turn =
     let turned-is : turned ≡ drop 1 (take (m + 1) (drop p t)) ++ take 1 (take (m + 1) (drop p t)) =
-    turn ∙ ap₂ (λ (x y : ℕ). drop 1 (take x (drop y (suc c ∷ t))) ++ take 1 (take x (drop y (suc c ∷ t)))) ek ei in
-    let past : suc (suc c) ≡ suc c + 1 = omega arith in
-    ap₂ (λ (x y : ℕ). set (set (put_mid y x (suc c ∷ t) turned) (suc c) 0) 0 (suc c - 1)) ek ei
-    ∙ ap (λ (ys : List ℕ). (suc c - 1) ∷ ys) (removes p c m t turned (omega arith) (omega arith) turned-is)
-    ∙ ap₂ (λ (x y : ℕ). (suc c - 1) ∷ (remove (take (suc c) t) x ++ 0 ∷ drop y (suc c ∷ t))) first past
+    turn ∙ ap₂ (λ (x y : ℕ). drop 1 (take x (drop y (c ∷ t))) ++ take 1 (take x (drop y (c ∷ t)))) ek ei in
+    let past : suc (suc n) ≡ c + 1 = omega arith in
+    ap₂ (λ (x y : ℕ). set (set (put_mid y x (c ∷ t) turned) (suc n) 0) 0 (suc n - 1)) ek ei
+    ∙ ap (λ (ys : List ℕ). (suc n - 1) ∷ ys) (removes p n m t turned (omega arith) (omega arith) turned-is)
+    ∙ ap₂ (λ (x y : ℕ). (suc n - 1) ∷ (remove (take (suc n) t) x ++ 0 ∷ drop y (c ∷ t))) first past
+    ∙ ap (λ (x : ℕ). (x - 1) ∷ (remove (take x t) (place (take c t) b) ++ 0 ∷ drop (c + 1) (c ∷ t))) en

@@ -5,7 +5,7 @@ ghost use Rattle.std.specs.Prelude.{◌≡◌, ◌+◌, ◌*◌, ◌≤◌, leng
 ghost use Rattle.row.specs.Row.{entries, place, Insertable, row_with, Removable, row_without, Able, changed};
 ghost use Rattle.row.specs.Memory.{loads_of_row, RowChanged};
 
-// What can be done with a load in a row.
+// What can be done with a load in a row. A closure in its place would need clauses in each function that hands it on.
 #[derive(Clone, Copy)]
 pub enum Change {
     Insert,
@@ -17,7 +17,7 @@ fn loads(row: &[u16]) -> &[u16]
     ensures { result.now ≡ entries row.now }
 {
     match row {
-        [count, rest @ ..] => &rest[0..rest.len().min(*count as usize)],
+        [count, rest @ ..] => rest.get(..*count as usize).unwrap_or(rest),
         [] => row,
     }
 }
@@ -26,11 +26,14 @@ fn loads(row: &[u16]) -> &[u16]
 pub fn row_loads(rows: &[u16], size: u16, row_limit: u8, a: usize) -> &[u16]
     ensures { size * (row_limit + 1) ≤ length rows.now → result.now ≡ loads_of_row size row_limit rows.now a }
 {
-    let width = row_limit as usize + 1;
-    if a >= size as usize || (a + 1) * width > rows.len() {
+    if a >= size as usize {
         return &[];
     }
-    loads(&rows[a * width..(a + 1) * width])
+    let width = row_limit as usize + 1;
+    match rows.get(a * width..(a + 1) * width) {
+        Some(row) => loads(row),
+        None => &[],
+    }
 }
 
 // The index of the first load that is not below b.
@@ -38,12 +41,10 @@ pub fn position(loads: &[u16], b: usize) -> usize
     ensures first { result ≡ place loads.now b }
     ensures within { result ≤ length loads.now }
 {
-    for (k, x) in loads.iter().enumerate() {
-        if *x as usize >= b {
-            return k;
-        }
-    }
-    loads.len()
+    loads
+        .iter()
+        .position(|x| *x as usize >= b)
+        .unwrap_or(loads.len())
 }
 
 // Puts b into a row that is not full.
@@ -51,16 +52,15 @@ fn insert(row: &mut [u16], b: u16)
     requires { length row.old ≤ 256 }
     ensures { Insertable row.old b → row.new ≡ row_with row.old b }
 {
-    if row.len() == 0 {
+    let Some(&count) = row.first() else {
+        return;
+    };
+    let n = count as usize;
+    if n + 1 >= row.len() {
         return;
     }
-    let count = row[0];
-    let end = 1 + count as usize;
-    if end >= row.len() {
-        return;
-    }
-    let k = 1 + position(&row[1..end], b as usize);
-    row[k..end + 1].rotate_right(1);
+    let k = position(loads(row), b as usize) + 1;
+    row[k..=n + 1].rotate_right(1);
     row[k] = b;
     row[0] = count + 1;
 }
@@ -69,20 +69,19 @@ fn insert(row: &mut [u16], b: u16)
 fn remove(row: &mut [u16], b: u16)
     ensures { Removable row.old b → row.new ≡ row_without row.old b }
 {
-    if row.len() == 0 {
+    let Some(&count) = row.first() else {
+        return;
+    };
+    let n = count as usize;
+    if n >= row.len() {
         return;
     }
-    let count = row[0];
-    let end = 1 + count as usize;
-    if end > row.len() {
+    let k = position(loads(row), b as usize) + 1;
+    if k > n {
         return;
     }
-    let k = 1 + position(&row[1..end], b as usize);
-    if k == end {
-        return;
-    }
-    row[k..end].rotate_left(1);
-    row[end - 1] = 0;
+    row[k..=n].rotate_left(1);
+    row[n] = 0;
     row[0] = count - 1;
 }
 

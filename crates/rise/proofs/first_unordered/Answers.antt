@@ -1,8 +1,8 @@
-use Rattle.std.proofs.Common.{arith}
-use Rattle.rise.proofs.Order.{rises_from_next}
+use Rattle.std.proofs.Common.{rules}
+use Rattle.rise.specs.Rise.{comes_before}
+use Rattle.rise.proofs.Order.{strict_total, first_unordered_is}
 use Rattle.rise.proofs.first_unordered.Goals as goal
 
-pub returns : goal.returns
-returns g c =
-    rises_from_next g.T.Precedes.before g.met.T.Precedes.transitive c.args.records.now
-    (λ k d past l. c.loop-i.invariant k d past (omega arith))
+pub returns-clause-first : goal.returns-clause-first
+returns-clause-first g c =
+    first_unordered_is (comes_before g.T.Ord.cmp) (strict_total g.T.Ord.cmp g.met.T.Ord.total).transitive c.args.records.now _ (search rules)

@@ -2,21 +2,21 @@ use Rattle.std.proofs.Common.{Some, sym, ap, ◌∙◌, arith}
 use Rattle.links.specs.declared.refusal.Refused.{Refused}
 use Rattle.links.specs.Refusals.{told}
 use Rattle.link_list.specs.Lists.{bad_entry}
-use Rattle.link_list.proofs.Checks.{checking_is, sound_is}
+use Rattle.link_list.proofs.Checks.{rise_found, checking_is, sound_is}
 use Rattle.link_list.proofs.LinkList.check.Goals as goal
 
 pub returns-in-Some : goal.returns-in-Some
 returns-in-Some c =
-    checking_is c.args.size c.args.entries.now _ _ c.first_unordered.ensures c.first_out_of_bounds.ensures
+    checking_is c.args.size c.args.entries.now _ _ (rise_found _ _ c.first_unordered.ensures.first) c.first_out_of_bounds.ensures
     (omega arith) (omega arith)
     ∙ ap bad_entry (sym c.in-Some.ensures)
     ∙ ap (λ (r : Refused). Some (told r)) (sym c.by_book-in-Some.ensures)
 
 pub returns-in-None : goal.returns-in-None
 returns-in-None c = (
-  checking_is c.args.size c.args.entries.now _ _ c.first_unordered.ensures c.first_out_of_bounds.ensures
+  checking_is c.args.size c.args.entries.now _ _ (rise_found _ _ c.first_unordered.ensures.first) c.first_out_of_bounds.ensures
       (omega arith) (omega arith)
       ∙ ap bad_entry (sym c.in-None.ensures),
-  sound_is c.args.size c.args.entries.now _ _ c.first_unordered.ensures c.first_out_of_bounds.ensures
+  sound_is c.args.size c.args.entries.now _ _ (rise_found _ _ c.first_unordered.ensures.first) c.first_out_of_bounds.ensures
       (omega arith) (sym c.in-None.ensures),
 )
