@@ -8,7 +8,7 @@ use Rattle.commands.specs.Commands.{bytes, decoding, decoded, reading, read_at, 
 use Rattle.commands.specs.declared.Command.{Command}
 use Rattle.commands.specs.declared.Command.TheVariants.{Link, Unlink, Withdraw, Depart, Partner}
 
-pub reading_inside : (stream : List ℕ) (place : ℕ) → length stream ≤ 65536 → place < length stream → reading stream place ≡ decoding (drop place stream)
+reading_inside : (stream : List ℕ) (place : ℕ) → length stream ≤ 65536 → place < length stream → reading stream place ≡ decoding (drop place stream)
 reading_inside stream place short inside =
     cond-false (ltb 65536 (length stream)) _ _ (le-ltb 65536 (length stream) short)
     ∙ cond-false (leb (length stream) place) _ _ (lt-leb (length stream) place inside)

@@ -1,28 +1,26 @@
 // Turns lines of commands into the bytes of a stream, and with `--decode` the bytes of a stream into lines.
 #![tactic(auto)]
 
+use std::fmt::Display;
 use std::io::Read;
 use std::{env, io};
-use text::stream::{BadStream, BadText, decode, encode};
+use text::stream::{decode, encode};
 
 // What the arguments ask for.
 #[derive(Clone, Copy)]
 enum Task {
     Encode,
     Decode,
-    Usage,
 }
 
-fn asked(rt: &HostRuntime) -> io::Result<Task> {
-    let mut args = env::args(rt)?;
-    let _program = args.next();
-    let Some(first) = args.next() else {
-        return Ok(Task::Encode);
-    };
-    if first.as_str() == "--decode" && args.next().is_none() {
-        return Ok(Task::Decode);
-    }
-    Ok(Task::Usage)
+// The task that the arguments name, if they name one.
+fn asked(rt: &HostRuntime) -> io::Result<Option<Task>> {
+    let mut args = env::args(rt)?.skip(1);
+    Ok(match (args.next(), args.next()) {
+        (None, _) => Some(Task::Encode),
+        (Some(first), None) if first.as_str() == "--decode" => Some(Task::Decode),
+        _ => None,
+    })
 }
 
 fn input(rt: &HostRuntime) -> io::Result<Vec<u8>> {
@@ -31,40 +29,22 @@ fn input(rt: &HostRuntime) -> io::Result<Vec<u8>> {
     Ok(bytes)
 }
 
-// Ends the program with status 1, once the reason is told.
-fn failed() -> io::Result<()> {
+// Tells the reason, and ends the program with status 1.
+fn failed<D: Display + Drop>(rt: &HostRuntime, reason: D) -> io::Result<()> {
+    eprintln!(rt; "{reason}")?;
     Err(io::Error::from(io::ErrorKind::InvalidData))
-}
-
-fn write_stream(rt: &HostRuntime, text: &[u8]) -> io::Result<()> {
-    match encode(rt.alloc(), text) {
-        Ok(stream) => return rt.write_all(stream.as_slice()),
-        Err(BadText::Line(number)) => eprintln!(rt; "line {number}: no command of this form")?,
-        Err(BadText::TooLong) => eprintln!(rt; "the commands come to more than 65536 bytes")?,
-        Err(BadText::NoMemory) => eprintln!(rt; "no memory is left")?,
-    }
-    failed()
-}
-
-fn write_text(rt: &HostRuntime, stream: &[u8]) -> io::Result<()> {
-    match decode(rt.alloc(), stream) {
-        Ok(text) => return rt.write_all(text.as_bytes()),
-        Err(BadStream::At(refused, place)) => {
-            let number = refused.refusal.number();
-            eprintln!(rt; "byte {place}: refused with {number}")?
-        }
-        Err(BadStream::NoMemory) => eprintln!(rt; "no memory is left")?,
-    }
-    failed()
 }
 
 fn main(rt: HostRuntime) -> io::Result<()> {
     match asked(&rt)? {
-        Task::Encode => write_stream(&rt, input(&rt)?.as_slice()),
-        Task::Decode => write_text(&rt, input(&rt)?.as_slice()),
-        Task::Usage => {
-            eprintln!(rt; "usage: pairtext [--decode] < input > output")?;
-            failed()
-        }
+        Some(Task::Encode) => match encode(rt.alloc(), input(&rt)?.as_slice()) {
+            Ok(stream) => rt.write_all(stream.as_slice()),
+            Err(reason) => failed(&rt, reason),
+        },
+        Some(Task::Decode) => match decode(rt.alloc(), input(&rt)?.as_slice()) {
+            Ok(text) => rt.write_all(text.as_bytes()),
+            Err(reason) => failed(&rt, reason),
+        },
+        None => failed(&rt, "usage: pairtext [--decode] < input > output"),
     }
 }

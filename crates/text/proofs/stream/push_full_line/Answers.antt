@@ -1,15 +1,10 @@
-use Rattle.std.proofs.Common.{◌++◌, string_bytes, codes, refl, ap, ◌∙◌, append_assoc, arith}
-use Rattle.std.proofs.lemmas.Slice.{pushed}
+use Rattle.std.proofs.Common.{OnOk, Result}
+use Rattle.std.proofs.lemmas.Result.{on_ok_weaker}
+use Rattle.text.proofs.Lines.{means_command}
 use Rattle.text.proofs.stream.push_full_line.Goals as goal
 
+with_fact : {T E Q : Type 0} (P : Type 0) (r : Result T E) → Q → OnOk r P → OnOk r (P × Q)
+with_fact P r q written = on_ok_weaker r (λ p. (p, q)) written
+
 pub returns : goal.returns
-returns c =
-    let before = string_bytes c.args.text.now in
-    let with-line = pushed {was = before} c.as_str.result.now refl c.in_ok-push_str.was c.push_str.ensures.bytes in
-    let with-feed = pushed _ with-line c.in_ok-push.was c.push.ensures.bytes in
-    let line = c.as_str.ensures.value ∙ c.in_ok-line.ensures.value in (
-      with-feed
-          ∙ (ap (λ feed. (before ++ c.as_str.result.now) ++ feed) (c.push.ensures.ascii (omega arith))
-          ∙ (append_assoc before c.as_str.result.now (codes "\n") ∙ ap (λ text. before ++ (text ++ codes "\n")) line)),
-      c.in_ok-line.ensures.reads_back,
-    )
+returns c = with_fact _ _ (means_command c.args.command _ c.well_formed.1.0) c.writeln.ensures.bytes
