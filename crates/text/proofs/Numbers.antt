@@ -1,5 +1,5 @@
 -- A word of digits, as `parse` reads it.
-use Rattle.std.proofs.Common.{◌≡◌, ℕ, ◌<◌, ◌≤◌, true, false, ◌&&◌, ltb, leb, List, length, Some, None, Ok, Err, Result, sym, refl, ⊎_elim, arith, ◌^◌}
+use Rattle.std.proofs.Common.{◌≡◌, ℕ, ◌<◌, true, false, ◌&&◌, List, length, None, Ok, Err, Result, refl, arith, ◌^◌}
 use Rattle.std.specs.Str.Parse.{digits_value, ParsesUnsigned}
 use Rattle.std.specs.Char.{is_ascii_digit}
 use Rattle.std.specs.List.{list_all}
@@ -9,7 +9,6 @@ use Rattle.std.proofs.lemmas.List.Recursion.{same_from_clauses}
 use Rattle.std.proofs.lemmas.Str.{IsUtf8-from_ascii}
 use Rattle.std.proofs.lemmas.Str.Parse.{IsNumeralModel, tells_all_ascii_digits, numerals_by_value, parse_digits}
 use Rattle.std.specs.Result.{OkIff, result_ok}
-use Rattle.std.proofs.lemmas.Bool.{cases_Bool, cond-false, and_parts, and_right, ltb-true, leb-true}
 use Rattle.std.proofs.lemmas.Bool.Decides.{nat_tests}
 use Rattle.text.specs.Words.{number}
 
@@ -23,19 +22,11 @@ pub text_of_digits : (word : List ℕ) → all_ascii_digits word ≡ true → Is
 text_of_digits word all = IsUtf8-from_ascii word (IsAscii-from_digits word (decimals.to word all))
 
 pub no_digits : (word : List ℕ) → all_ascii_digits word ≡ false → None ≡ number word
-no_digits word other = rw other (sym (cond-false (ltb 0 (length word) && false) _ _ (and_right (ltb 0 (length word)) false refl)))
+no_digits word other = grind (arith, nat_tests)
 
 parses_or : {E : Type 0} (word : List ℕ) (r : Result ℕ E) → all_ascii_digits word ≡ true → OkIff r ((0 < length word) × (digits_value 10 word < 2 ^ 16)) (digits_value 10 word) → result_ok r ≡ number word
 parses_or word (Ok n) all h = grind (arith, nat_tests)
-parses_or word (Err e) all h =
-    ⊎_elim
-    (λ (good : (ltb 0 (length word) && (all_ascii_digits word && leb (digits_value 10 word) 65535)) ≡ true).
-    let (some, others) = and_parts (ltb 0 (length word)) (all_ascii_digits word && leb (digits_value 10 word) 65535) good in
-    let (digits, small) = and_parts (all_ascii_digits word) (leb (digits_value 10 word) 65535) others in
-    let few : digits_value 10 word ≤ 65535 = leb-true (digits_value 10 word) 65535 small in
-    absurd (h (ltb-true 0 (length word) some, omega arith)))
-    (λ (bad : (ltb 0 (length word) && (all_ascii_digits word && leb (digits_value 10 word) 65535)) ≡ false). sym (cond-false (ltb 0 (length word) && (all_ascii_digits word && leb (digits_value 10 word) 65535)) _ _ bad))
-    (cases_Bool (ltb 0 (length word) && (all_ascii_digits word && leb (digits_value 10 word) 65535)))
+parses_or word (Err e) all h = grind (arith, nat_tests)
 
 pub parsed_is : {E : Type 0} (word : List ℕ) (r : Result ℕ E) → ParsesUnsigned 16 10 word r → all_ascii_digits word ≡ true → result_ok r ≡ number word
 parsed_is word r parses all = parses_or word r all (parse_digits decimals 16 word r parses all)

@@ -1,8 +1,8 @@
 -- Whole texts line by line, and streams command by command.
-use Rattle.std.proofs.Common.{◌≡◌, ℕ, zero, suc, ◌+◌, ◌-◌, ◌<◌, ◌≤◌, true, false, cond, eqb, leb, List, [], ◌∷◌, ◌++◌, map, length, get_or, take, drop, is_ok, None, Err, sym, refl, ap, ◌∙◌, ⊎_elim, append_assoc, add-zero, arith, length-append, length-drop, take-add, below_more}
+use Rattle.std.proofs.Common.{◌≡◌, ℕ, zero, suc, ◌+◌, ◌-◌, ◌<◌, ◌≤◌, true, false, eqb, leb, List, [], ◌∷◌, ◌++◌, map, length, get_or, take, is_ok, None, Err, sym, refl, ap, ◌∙◌, ⊎_elim, append_assoc, arith, length-append, take-add, below_more}
 use Rattle.std.specs.List.{between, flat_map, onto_first, AllByRecursion}
 use Rattle.std.proofs.slice.Lists.{all_by_recursion_push}
-use Rattle.std.proofs.lemmas.List.{take_more, take_all, get_or-drop, drop-drop, flat_map_more}
+use Rattle.std.proofs.lemmas.List.{take_more, take_all, flat_map_more}
 use Rattle.std.proofs.lemmas.Bool.{leb-true, cases_Bool, cond-true, cond-false}
 use Rattle.commands.specs.Commands.{bytes, line_of, read_at}
 use Rattle.commands.specs.declared.Command.{Command}

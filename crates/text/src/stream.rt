@@ -35,9 +35,9 @@ impl fmt::Display for BadText {
 
     fn fmt<W: fmt::Write>(&self, f: &mut fmt::Formatter<W>) -> fmt::Result {
         match self {
-            BadText::Line(number) => write!(f, "line {number}: no command of this form"),
-            BadText::TooLong => f.write_str("the commands come to more than 65536 bytes"),
-            BadText::NoMemory => f.write_str("no memory is left"),
+            Self::Line(number) => write!(f, "line {number}: no command of this form"),
+            Self::TooLong => f.write_str("the commands come to more than 65536 bytes"),
+            Self::NoMemory => f.write_str("no memory is left"),
         }
     }
 }
@@ -65,11 +65,11 @@ impl fmt::Display for BadStream {
 
     fn fmt<W: fmt::Write>(&self, f: &mut fmt::Formatter<W>) -> fmt::Result {
         match self {
-            BadStream::At(refused, place) => {
+            Self::At(refused, place) => {
                 let number = refused.refusal.number();
                 write!(f, "byte {place}: refused with {number}")
             }
-            BadStream::NoMemory => f.write_str("no memory is left"),
+            Self::NoMemory => f.write_str("no memory is left"),
         }
     }
 }
@@ -113,7 +113,8 @@ pub fn encode(heap: Global, text: &[u8]) -> Result<Vec<u8>, BadText>
 
 // Appends the line of a command and a line feed.
 fn push_full_line(text: &mut String, command: Command) -> Result<(), AllocError>
-    ensures { OnOk result ((string_bytes text.new ≡ string_bytes text.old ++ full_line command) × Means (line_of command) command) }
+    ensures line { OnOk result (string_bytes text.new ≡ string_bytes text.old ++ full_line command) }
+    ensures reads_back { Means (line_of command) command }
 {
     writeln!(text, "{command}")
 }
@@ -124,9 +125,9 @@ pub fn decode(heap: Global, stream: &[u8]) -> Result<String, BadStream>
 {
     let mut text = String::new(heap);
     let mut place = 0;
-    while let Some(decoded) =
-        read(stream, place).map_err(|refused| BadStream::At(refused, place))?
-    {
+    while let Some(decoded) = read(stream, place).map_err(|refused| BadStream::At(
+        refused, place,
+    ))? {
         push_full_line(&mut text, decoded.command)?;
         place = decoded.next;
     }

@@ -1,4 +1,4 @@
-use Rattle.std.proofs.Common.{◌≡◌, Some, None, Ok, rules, sym, ◌∙◌}
+use Rattle.std.proofs.Common.{◌≡◌, Some, None, Ok, rules}
 use Rattle.std.proofs.lemmas.List.{take_all}
 use Rattle.text.proofs.Texts.{spelled_more, spelled_stands, ended}
 use Rattle.text.proofs.stream.decode.Goals as goal
@@ -7,8 +7,8 @@ pub loop-text-preserved : goal.loop-text-preserved
 loop-text-preserved c =
     let was : c.read.result ≡ Ok (Some c.in-Some.decoded) = search rules in
     let spans = rw was at c.read.ensures.spanned in
-    rw c.in_ok-push_full_line.ensures.0
-    (spelled_more _ _ _ _ _ c.loop-text.invariant spans.ahead spans.within spans.written c.in_ok-push_full_line.ensures.1)
+    rw c.in_ok-push_full_line.ensures.line
+    (spelled_more _ _ _ _ _ c.loop-text.invariant spans.ahead spans.within spans.written c.in_ok-push_full_line.ensures.reads_back)
 
 pub returns : goal.returns
 returns c =
