@@ -80,10 +80,8 @@ fn push(stream: &mut Vec<u8>, command: Command) -> Result<(), AllocError>
     ensures { OnOk result (stream.new.items ≡ stream.old.items ++ bytes command) }
 {
     let mut room = [0; 5];
-    match command.write(&mut room) {
-        Ok(n) => stream.extend_from_slice(&room[0..n]),
-        Err(_) => unreachable(),
-    }
+    let n = command.write(&mut room).unwrap();
+    stream.extend_from_slice(&room[..n])
 }
 
 // Appends the bytes of the command of a line, if it has one. The number is that of the line.
@@ -125,9 +123,7 @@ pub fn decode(heap: Global, stream: &[u8]) -> Result<String, BadStream>
 {
     let mut text = String::new(heap);
     let mut place = 0;
-    while let Some(decoded) = read(stream, place).map_err(|refused| BadStream::At(
-        refused, place,
-    ))? {
+    while let Some(decoded) = read(stream, place).map_err(|e| BadStream::At(e, place))? {
         push_full_line(&mut text, decoded.command)?;
         place = decoded.next;
     }
