@@ -1,20 +1,17 @@
 -- What is read inside a stream, and that a command that was written reads back.
-use Rattle.std.proofs.Common.{◌≡◌, ℕ, ◌<◌, ◌≤◌, ltb, leb, List, ◌++◌, length, drop, Some, None, Ok, sym, refl, ap, ◌∙◌, arith}
+use Rattle.std.proofs.Common.{◌≡◌, ℕ, ◌<◌, ◌≤◌, List, ◌++◌, length, drop, Some, None, Ok, sym, refl, ap, ◌∙◌, arith}
 use Rattle.std.proofs.lemmas.Nat.{div-add-mod'}
 use Rattle.std.proofs.lemmas.List.{drop_at, length-append}
-use Rattle.std.proofs.lemmas.Bool.{cond-false, le-ltb, lt-leb}
 use Rattle.std.proofs.lemmas.Bool.Decides.{nat_tests}
 use Rattle.commands.specs.Commands.{bytes, decoding, decoded, reading, read_at, followed, ReadsBack}
 use Rattle.commands.specs.declared.Command.{Command}
 use Rattle.commands.specs.declared.Command.TheVariants.{Link, Unlink, Withdraw, Depart, Partner}
 
-pub reading_inside : (stream : List ℕ) (place : ℕ) → length stream ≤ 65536 → place < length stream → reading stream place ≡ decoding (drop place stream)
-reading_inside stream place short inside =
-    cond-false (ltb 65536 (length stream)) _ _ (le-ltb 65536 (length stream) short)
-    ∙ cond-false (leb (length stream) place) _ _ (lt-leb (length stream) place inside)
+reading_inside : (stream : List ℕ) (place : ℕ) → length stream ≤ 65536 → place < length stream → reading stream place ≡ decoding (drop place stream)
+reading_inside stream place short inside = grind (arith, nat_tests)
 
 read_at_inside : (stream : List ℕ) (place : ℕ) → place < length stream → read_at stream place ≡ Some (followed place (decoded (drop place stream)))
-read_at_inside stream place inside = cond-false (leb (length stream) place) _ _ (lt-leb (length stream) place inside)
+read_at_inside stream place inside = grind (arith, nat_tests)
 
 -- two bytes give back the load that they were made of
 decoded_back : (command : Command) (after : List ℕ) → (decoding (bytes command ++ after) ≡ None) × (decoded (bytes command ++ after) ≡ command)

@@ -1,5 +1,5 @@
--- The commands of a stream: their bytes, and what is read from bytes.
-use Rattle.std.specs.Prelude.{◌≡◌, ℕ, ◌+◌, ◌*◌, ◌/◌, ◌%◌, ◌<◌, ◌≤◌, cond, ◌||◌, List, [], ◌∷◌, ◌++◌, length, drop, Some, None, Ok, Err, Option, Result, ◌==◌, nat_le, nat_lt, slice_index}
+-- The commands of a stream: their bytes, their lines, and what is read from bytes.
+use Rattle.std.specs.Prelude.{◌≡◌, ℕ, ◌+◌, ◌*◌, ◌/◌, ◌%◌, ◌<◌, ◌≤◌, cond, ◌||◌, List, [], ◌∷◌, ◌++◌, length, drop, Some, None, Ok, Err, Option, Result, ◌==◌, nat_le, nat_lt, slice_index, codes, decimal}
 use Rattle.std.specs.List.{between}
 use Rattle.links.specs.Books.{by}
 use Rattle.links.specs.Refusals.{Reason, Answers, Kept}
@@ -19,6 +19,14 @@ bytes (Unlink a b) = 2 ∷ two_bytes a ++ two_bytes b
 bytes (Withdraw a) = 3 ∷ two_bytes a
 bytes (Depart a) = 4 ∷ two_bytes a
 bytes (Partner a) = 5 ∷ two_bytes a
+
+-- the line of a command, without a line feed
+abbrev pub line_of : Command → List ℕ
+line_of (Link a b) = codes "link " ++ (decimal a ++ (codes " " ++ decimal b))
+line_of (Unlink a b) = codes "unlink " ++ (decimal a ++ (codes " " ++ decimal b))
+line_of (Withdraw a) = codes "withdraw " ++ decimal a
+line_of (Depart a) = codes "depart " ++ decimal a
+line_of (Partner a) = codes "partner " ++ decimal a
 
 -- 14: the output is shorter than what is to be written
 abbrev pub writing : List ℕ → List ℕ → Option Reason

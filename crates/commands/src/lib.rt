@@ -1,11 +1,13 @@
-// The commands of a stream, as bytes: one for the kind of command, then two for each of its loads, the high byte first.
+// The commands of a stream, as bytes: one for the kind of command, then two for each of its loads, the high byte first; and as
+// lines of text.
 #![tactic(auto)]
 
-ghost use Rattle.std.specs.Prelude.{◌≡◌, ◌+◌, ◌*◌, ◌≤◌, length, take};
+ghost use Rattle.std.specs.Prelude.{◌≡◌, ◌+◌, ◌*◌, ◌≤◌, length, take, Some};
 ghost use Rattle.links.specs.Refusals.{Answers};
-ghost use Rattle.commands.specs.Commands.{bytes, decoding, decoded, Writes, Reads, Spanned, ReadsBack};
+ghost use Rattle.commands.specs.Commands.{bytes, line_of, decoding, decoded, Writes, Reads, Spanned, ReadsBack};
 
 use links::{Layer, Refusal, Refused};
+use std::fmt;
 
 // A stream has at most this many bytes.
 pub const LONGEST_STREAM: usize = 65_536;
@@ -66,6 +68,21 @@ impl Command {
         }
         out[..n].copy_from_slice(&self.encode()[..n]);
         Ok(n)
+    }
+}
+
+// The line of a command, without a line feed: a word for its kind, then its loads in decimal.
+impl fmt::Display for Command {
+    ghost output = { λ c. Some (line_of c) };
+
+    fn fmt<W: fmt::Write>(&self, f: &mut fmt::Formatter<W>) -> fmt::Result {
+        match self {
+            Command::Link(a, b) => write!(f, "link {a} {b}"),
+            Command::Unlink(a, b) => write!(f, "unlink {a} {b}"),
+            Command::Withdraw(a) => write!(f, "withdraw {a}"),
+            Command::Depart(a) => write!(f, "depart {a}"),
+            Command::Partner(a) => write!(f, "partner {a}"),
+        }
     }
 }
 

@@ -1,29 +1,10 @@
 // Turns lines of commands into the bytes of a stream, and with `--decode` the bytes of a stream into lines.
 #![tactic(auto)]
 
+use std::fmt::Display;
 use std::io::Read;
 use std::{env, io};
-use text::stream::{BadStream, BadText, decode, encode};
-
-// What the arguments ask for.
-#[derive(Clone, Copy)]
-enum Task {
-    Encode,
-    Decode,
-    Usage,
-}
-
-fn asked(rt: &HostRuntime) -> io::Result<Task> {
-    let mut args = env::args(rt)?;
-    let _program = args.next();
-    let Some(first) = args.next() else {
-        return Ok(Task::Encode);
-    };
-    if first.as_str() == "--decode" && args.next().is_none() {
-        return Ok(Task::Decode);
-    }
-    Ok(Task::Usage)
-}
+use text::stream::{decode, encode};
 
 fn input(rt: &HostRuntime) -> io::Result<Vec<u8>> {
     let mut bytes = Vec::new(rt.alloc());
@@ -31,40 +12,27 @@ fn input(rt: &HostRuntime) -> io::Result<Vec<u8>> {
     Ok(bytes)
 }
 
-// Ends the program with status 1, once the reason is told.
-fn failed() -> io::Result<()> {
+// Tells the reason, and ends the program with status 1.
+fn failed(rt: &HostRuntime, reason: impl Display + Drop) -> io::Result<()> {
+    eprintln!(rt; "{reason}")?;
     Err(io::Error::from(io::ErrorKind::InvalidData))
 }
 
-fn write_stream(rt: &HostRuntime, text: &[u8]) -> io::Result<()> {
-    match encode(rt.alloc(), text) {
-        Ok(stream) => return rt.write_all(stream.as_slice()),
-        Err(BadText::Line(number)) => eprintln!(rt; "line {number}: no command of this form")?,
-        Err(BadText::TooLong) => eprintln!(rt; "the commands come to more than 65536 bytes")?,
-        Err(BadText::NoMemory) => eprintln!(rt; "no memory is left")?,
+fn write<E: Display + Drop>(rt: &HostRuntime, answer: Result<Vec<u8>, E>) -> io::Result<()> {
+    match answer {
+        Ok(bytes) => rt.write_all(bytes.as_slice()),
+        Err(reason) => failed(rt, reason),
     }
-    failed()
-}
-
-fn write_text(rt: &HostRuntime, stream: &[u8]) -> io::Result<()> {
-    match decode(rt.alloc(), stream) {
-        Ok(text) => return rt.write_all(text.as_bytes()),
-        Err(BadStream::At(refused, place)) => {
-            let number = refused.refusal.number();
-            eprintln!(rt; "byte {place}: refused with {number}")?
-        }
-        Err(BadStream::NoMemory) => eprintln!(rt; "no memory is left")?,
-    }
-    failed()
 }
 
 fn main(rt: HostRuntime) -> io::Result<()> {
-    match asked(&rt)? {
-        Task::Encode => write_stream(&rt, input(&rt)?.as_slice()),
-        Task::Decode => write_text(&rt, input(&rt)?.as_slice()),
-        Task::Usage => {
-            eprintln!(rt; "usage: pairtext [--decode] < input > output")?;
-            failed()
-        }
+    let mut args = env::args(&rt)?.skip(1);
+    let Some(option) = args.next() else {
+        return write(&rt, encode(rt.alloc(), input(&rt)?.as_slice()));
+    };
+    if option.as_str() == "--decode" && args.next().is_none() {
+        let text = decode(rt.alloc(), input(&rt)?.as_slice());
+        return write(&rt, text.map(String::into_bytes));
     }
+    failed(&rt, "usage: pairtext [--decode] < input > output")
 }

@@ -10,8 +10,15 @@ use Rattle.std.proofs.lemmas.Bool.{and_parts, and_from, cond-true, cond-false, l
 use Rattle.std.proofs.lemmas.Bool.Decides.{nat_tests}
 use Rattle.commands.specs.declared.Command.{Command}
 use Rattle.commands.specs.declared.Command.TheVariants.{Link, Unlink, Withdraw, Depart, Partner}
+use mir.Val.{Val}
+use denote.Enum.Laws.{owed}
+use denote.Enum.Declared.{row}
+use denote.Laws.{Is}
+use Rattle.commands.specs.contracts.Command.{the_type}
+use Rattle.commands.proofs.Command.TheLaws.{the_laws}
 use Rattle.text.specs.Words.{line_without_return, unspaced, front, past, word, empty, number}
-use Rattle.text.specs.Lines.{line_of, with_load, command_of_one, command_of_two, command_of, comment, required, meaning, Means}
+use Rattle.commands.specs.Commands.{line_of}
+use Rattle.text.specs.Lines.{with_load, command_of_one, command_of_two, command_of, comment, required, meaning, Means}
 
 all_digits : (n : ℕ) → n < 2 ^ 16 → all_ascii_digits (decimal n) ≡ true
 all_digits n small = digits_decimal (numerals_by_value _ tells_all_ascii_digits) n (omega arith)
@@ -163,3 +170,13 @@ means_partner a small =
       one_line = ap (λ l. codes "partner " ++ l) (one_number_line a small);
       means = meaning_is (line_of (Partner a)) (codes "partner ") a (Partner a) small refl refl (one_number (codes "partner") a small);
     }
+
+-- what holds a command holds loads of 16 bits, so each command has the line that means it
+pub means_command : (command : Command) (vs : List Val) → Is (row the_type) command vs → Means (line_of command) command
+means_command (Link a b) vs is =
+    let loads = owed the_type the_laws (Link a b) vs is in means_link a b loads.0.1 loads.1.0.1
+means_command (Unlink a b) vs is =
+    let loads = owed the_type the_laws (Unlink a b) vs is in means_unlink a b loads.0.1 loads.1.0.1
+means_command (Withdraw a) vs is = means_withdraw a (owed the_type the_laws (Withdraw a) vs is).0.1
+means_command (Depart a) vs is = means_depart a (owed the_type the_laws (Depart a) vs is).0.1
+means_command (Partner a) vs is = means_partner a (owed the_type the_laws (Partner a) vs is).0.1

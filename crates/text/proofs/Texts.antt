@@ -1,44 +1,16 @@
 -- Whole texts line by line, and streams command by command.
-use Rattle.std.proofs.Common.{◌≡◌, ℕ, zero, suc, ◌+◌, ◌-◌, ◌<◌, ◌≤◌, true, false, cond, eqb, leb, List, [], ◌∷◌, ◌++◌, map, length, get_or, take, drop, is_ok, None, sym, refl, ap, ◌∙◌, ⊎_elim, append_assoc, add-zero, arith, length-append, length-drop, take-add, below_more}
-use Rattle.std.specs.List.{between, flat_map, AllByRecursion}
+use Rattle.std.proofs.Common.{◌≡◌, ℕ, zero, suc, ◌+◌, ◌-◌, ◌<◌, ◌≤◌, true, false, eqb, leb, List, [], ◌∷◌, ◌++◌, map, length, get_or, take, is_ok, None, Err, sym, refl, ap, ◌∙◌, ⊎_elim, append_assoc, arith, length-append, take-add, below_more}
+use Rattle.std.specs.List.{between, flat_map, onto_first, AllByRecursion}
 use Rattle.std.proofs.slice.Lists.{all_by_recursion_push}
-use Rattle.std.proofs.lemmas.List.{take_more, take_all, get_or-drop, drop-drop, flat_map_more}
+use Rattle.std.proofs.lemmas.List.{take_more, take_all, flat_map_more}
 use Rattle.std.proofs.lemmas.Bool.{leb-true, cases_Bool, cond-true, cond-false}
-use Rattle.commands.specs.Commands.{bytes, read_at}
+use Rattle.commands.specs.Commands.{bytes, line_of, read_at}
 use Rattle.commands.specs.declared.Command.{Command}
-use Rattle.text.specs.Words.{front, past}
-use Rattle.text.specs.Lines.{line_of, meaning, Means}
-use Rattle.text.specs.Streams.{put, lines, answer_bytes, line_bytes, Good, stream_of, FirstBad, StandsFor, full_line, Spelled}
-
--- the lines after the line feed that these bytes begin with
-abbrev later : List ℕ → List (List ℕ)
-later [] = []
-later (b ∷ bs) = lines bs
-
--- the first line, and the lines after it
-lines_split : (text : List ℕ) → lines text ≡ front 10 text ∷ later (past 10 text)
-lines_split [] = refl
-lines_split (b ∷ bs) =
-    ⊎_elim
-    (λ (feed : eqb b 10 ≡ true).
-    cond-true (eqb b 10) _ _ feed
-    ∙ sym (ap (λ t. cond t [] (b ∷ front 10 bs) ∷ later (cond t (b ∷ bs) (past 10 bs))) feed))
-    (λ (other : eqb b 10 ≡ false).
-    cond-false (eqb b 10) _ _ other
-    ∙ (ap (put b) (lines_split bs) ∙ sym (ap (λ t. cond t [] (b ∷ front 10 bs) ∷ later (cond t (b ∷ bs) (past 10 bs))) other)))
-    (cases_Bool (eqb b 10))
-
-later_some : (after : List ℕ) → 0 < length after → later after ≡ lines (drop 1 after)
-later_some [] some = absurd (omega arith)
-later_some (b ∷ bs) some = refl
-
-pub length_past_le : (s : ℕ) (text : List ℕ) → length (past s text) ≤ length text
-length_past_le s [] = omega arith
-length_past_le s (b ∷ bs) =
-    ⊎_elim
-    (λ (here : eqb b s ≡ true). omega (arith, ap length (cond-true (eqb b s) (b ∷ bs) (past s bs) here)))
-    (λ (other : eqb b s ≡ false). omega (arith, ap length (cond-false (eqb b s) (b ∷ bs) (past s bs) other), length_past_le s bs))
-    (cases_Bool (eqb b s))
+use Rattle.text.specs.Words.{front}
+use Rattle.text.specs.Lines.{meaning, Means}
+use Rattle.text.specs.Streams.{lines, answer_bytes, line_bytes, Good, stream_of, FirstBad, StandsFor, full_line, Spelled, Appends, Encodes}
+use Rattle.text.specs.declared.stream.BadText.{BadText}
+use Rattle.text.specs.declared.stream.BadText.TheVariants.{Line, TooLong, NoMemory}
 
 joined_take_le : (k : ℕ) (ls : List (List ℕ)) → length (flat_map line_bytes (take k ls)) ≤ length (flat_map line_bytes ls)
 joined_take_le zero ls = omega arith
@@ -46,63 +18,48 @@ joined_take_le (suc k) [] = omega arith
 joined_take_le (suc k) (l ∷ ls) =
     omega (arith, length-append (line_bytes l) (flat_map line_bytes (take k ls)), length-append (line_bytes l) (flat_map line_bytes ls), joined_take_le k ls)
 
--- the first lines of a text gave this stream, and the others are those of the rest
-pub record Sofar (text rest : List ℕ) (number : ℕ) (stream : List ℕ) : Type 0 where
-  pub rest_lines : lines rest ≡ drop number (lines text)
-  pub good : Good text number
-  pub bytes_are : stream ≡ flat_map line_bytes (take number (lines text))
-  pub counted : number + length rest ≤ length text
+-- the first k lines of a text are good, and gave this stream
+pub record Sofar (text : List ℕ) (k : ℕ) (stream : List ℕ) : Type 0 where
+  pub good : Good text k
+  pub bytes_are : stream ≡ flat_map line_bytes (take k (lines text))
   pub short : length stream ≤ 65536
 
-module _ {text rest : List ℕ} {number : ℕ} {stream : List ℕ} (so_far : Sofar text rest number stream) where
-  left : drop number (lines text) ≡ front 10 rest ∷ later (past 10 rest)
-  left = sym so_far.rest_lines ∙ lines_split rest
+module _ {text : List ℕ} {k : ℕ} {stream : List ℕ} (so_far : Sofar text k stream) where
+  pub sofar_all : length (lines text) ≤ k → StandsFor text stream
+  sofar_all all =
+      record {
+        good = λ i below. so_far.good i (omega arith);
+        bytes_are = so_far.bytes_are ∙ ap (flat_map line_bytes) (take_all k (lines text) all);
+      }
 
-  inside : number < length (lines text)
-  inside = omega (arith, ap length left, length-drop number (lines text))
+  -- the next line
+  module _ (line : List ℕ) (inside : k < length (lines text)) (is : line ≡ get_or (lines text) k []) where
+    first_bad : is_ok (meaning line) ≡ false → FirstBad text (k + 1)
+    first_bad bad = record { index = k; counted = refl; inside = inside; bad = ap (λ l. is_ok (meaning l)) (sym is) ∙ bad; before = so_far.good }
 
-  line_is : front 10 rest ≡ get_or (lines text) number []
-  line_is =
-      sym (ap (λ ls. get_or ls 0 []) left) ∙ (get_or-drop number (lines text) 0 [] ∙ ap (λ k. get_or (lines text) k []) (add-zero number))
+    pub refused : (number : ℕ) (after : List ℕ) (e : BadText) → number ≡ k + 1 → Appends line number stream (Err e) after → Encodes text (Err e)
+    refused number after (Line n) counted told = rw (told.0, counted) (first_bad told.1)
+    refused number after TooLong counted told = absurd told
+    refused number after NoMemory counted told = tt
 
-  left_later : later (past 10 rest) ≡ drop (number + 1) (lines text)
-  left_later = sym (ap (drop 1) left) ∙ drop-drop 1 number (lines text)
+    module _ (after : List ℕ) (follows : after ≡ stream ++ line_bytes line) where
+      bytes_more : after ≡ flat_map line_bytes (take (k + 1) (lines text))
+      bytes_more =
+          follows
+          ∙ (ap (λ bs. bs ++ line_bytes line) so_far.bytes_are
+          ∙ (ap (λ l. flat_map line_bytes (take k (lines text)) ++ line_bytes l) is
+          ∙ (flat_map_more line_bytes [] (take k (lines text)) (get_or (lines text) k [])
+          ∙ ap (flat_map line_bytes) (sym (take_more (lines text) k [] inside)))))
 
-  pub first_bad : is_ok (meaning (front 10 rest)) ≡ false → FirstBad text (number + 1)
-  first_bad bad = record { index = number; counted = refl; inside = inside; bad = ap (λ l. is_ok (meaning l)) (sym line_is) ∙ bad; before = so_far.good }
+      pub too_long : 65536 < length after → 65536 < length (stream_of text)
+      too_long long = omega (arith, ap length bytes_more, joined_take_le (k + 1) (lines text))
 
-  module _ (after : List ℕ) (follows : after ≡ stream ++ line_bytes (front 10 rest)) where
-    bytes_more : after ≡ flat_map line_bytes (take (number + 1) (lines text))
-    bytes_more =
-        follows
-        ∙ (ap (λ bs. bs ++ line_bytes (front 10 rest)) so_far.bytes_are
-        ∙ (ap (λ l. flat_map line_bytes (take number (lines text)) ++ line_bytes l) line_is
-        ∙ (flat_map_more line_bytes [] (take number (lines text)) (get_or (lines text) number [])
-        ∙ ap (flat_map line_bytes) (sym (take_more (lines text) number [] inside)))))
-
-    pub too_long : 65536 < length after → 65536 < length (stream_of text)
-    too_long long = omega (arith, ap length bytes_more, joined_take_le (number + 1) (lines text))
-
-    module _ (is-good : is_ok (meaning (front 10 rest)) ≡ true) where
-      good_more : Good text (number + 1)
-      good_more = below_more _ _ so_far.good (ap (λ l. is_ok (meaning l)) (sym line_is) ∙ is-good)
-
-      pub sofar_more : 0 < length (past 10 rest) → length after ≤ 65536 → Sofar text (drop 1 (past 10 rest)) (number + 1) after
-      sofar_more some fits =
+      pub sofar_more : is_ok (meaning line) ≡ true → length after ≤ 65536 → Sofar text (k + 1) after
+      sofar_more good fits =
           record {
-            rest_lines = sym (later_some (past 10 rest) some) ∙ left_later;
-            good = good_more;
+            good = below_more _ _ so_far.good (ap (λ l. is_ok (meaning l)) (sym is) ∙ good);
             bytes_are = bytes_more;
-            counted = omega (arith, so_far.counted, length-drop 1 (past 10 rest), length_past_le 10 rest);
             short = fits;
-          }
-
-      pub sofar_all : past 10 rest ≡ [] → StandsFor text after
-      sofar_all none =
-          let all : length (lines text) ≤ number + 1 = omega (arith, ap length (sym left_later ∙ ap later none), length-drop (number + 1) (lines text)) in
-          record {
-            good = λ i below. good_more i (omega arith);
-            bytes_are = bytes_more ∙ ap (flat_map line_bytes) (take_all (number + 1) (lines text) all);
           }
 
 take_between : (place next : ℕ) (stream : List ℕ) → place ≤ next → next ≤ length stream → take next stream ≡ take place stream ++ between place next stream
@@ -135,7 +92,7 @@ lines_full (b ∷ bs) rest one =
     (λ (other : eqb b 10 ≡ false).
     let same = sym (cond-false (eqb b 10) [] (b ∷ front 10 bs) other) ∙ one in
     let more : front 10 bs ≡ bs = cc in
-    cond-false (eqb b 10) _ _ other ∙ ap (put b) (lines_full bs rest more))
+    cond-false (eqb b 10) _ _ other ∙ ap (onto_first b) (lines_full bs rest more))
     (cases_Bool (eqb b 10))
 
 abbrev all_lines : List Command → List (List ℕ)

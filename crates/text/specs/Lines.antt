@@ -1,18 +1,10 @@
--- The line of a command, and the command of a line.
-use Rattle.std.specs.Prelude.{◌≡◌, ℕ, Bool, cond, ◌||◌, List, ◌++◌, Some, None, Ok, Err, codes, decimal, Option, Result, ◌==◌, slice_index}
+-- The command of a line.
+use Rattle.std.specs.Prelude.{◌≡◌, ℕ, Bool, cond, ◌||◌, List, Some, None, Ok, Err, codes, Option, Result, ◌==◌, slice_index}
 use Rattle.std.specs.Str.{bytes_eq}
 use Rattle.commands.specs.declared.Command.{Command}
 use Rattle.commands.specs.declared.Command.TheVariants.{Link, Unlink, Withdraw, Depart, Partner}
 use Rattle.text.specs.declared.BadLine.{BadLine}
 use Rattle.text.specs.Words.{line_without_return, front, word, past, unspaced, empty, number}
-
--- the line of a command, without a line feed
-abbrev pub line_of : Command → List ℕ
-line_of (Link a b) = codes "link " ++ (decimal a ++ (codes " " ++ decimal b))
-line_of (Unlink a b) = codes "unlink " ++ (decimal a ++ (codes " " ++ decimal b))
-line_of (Withdraw a) = codes "withdraw " ++ decimal a
-line_of (Depart a) = codes "depart " ++ decimal a
-line_of (Partner a) = codes "partner " ++ decimal a
 
 abbrev pub command_of_one : List ℕ → ℕ → Option Command
 command_of_one kind a =

@@ -1,11 +1,11 @@
 -- Whole texts and the streams that they stand for.
-use Rattle.std.specs.Prelude.{◌≡◌, ℕ, ◌+◌, ◌<◌, ◌≤◌, true, false, cond, List, [], ◌∷◌, ◌++◌, length, take, is_ok, Some, None, Ok, Err, vec_items, string_bytes, codes, Option, Result, Vec, String, ◌==◌, slice_index_or}
-use Rattle.std.specs.List.{flat_map, AllByRecursion}
+use Rattle.std.specs.Prelude.{◌≡◌, ℕ, ◌+◌, ◌<◌, ◌≤◌, true, false, List, [], ◌++◌, length, take, is_ok, Some, None, Ok, Err, vec_items, string_bytes, codes, decimal, Option, Result, Vec, String, ◌==◌, slice_index_or}
+use Rattle.std.specs.List.{slice_split, flat_map, AllByRecursion}
 use Rattle.std.specs.declared.alloc.Global.{Global}
 use Rattle.links.specs.Refusals.{told}
-use Rattle.commands.specs.Commands.{bytes, reading}
+use Rattle.commands.specs.Commands.{bytes, line_of, reading}
 use Rattle.commands.specs.declared.Command.{Command}
-use Rattle.text.specs.Lines.{line_of, meaning, Means}
+use Rattle.text.specs.Lines.{meaning, Means}
 use Rattle.text.specs.declared.BadLine.{BadLine}
 use Rattle.text.specs.declared.stream.BadText.{BadText}
 use Rattle.text.specs.declared.stream.BadText.TheVariants.{Line, TooLong, NoMemory}
@@ -13,15 +13,9 @@ use Rattle.text.specs.declared.stream.BadStream.{BadStream}
 use Rattle.text.specs.declared.stream.BadStream.TheVariants.{At}
 use Rattle.text.specs.declared.stream.BadStream.TheVariants as bad_stream
 
--- one more byte at the start of the first line
-abbrev pub put : ℕ → List (List ℕ) → List (List ℕ)
-put b [] = (b ∷ []) ∷ []
-put b (l ∷ ls) = (b ∷ l) ∷ ls
-
 -- the lines of a text: what stands before, between and after its line feeds
 abbrev pub lines : List ℕ → List (List ℕ)
-lines [] = [] ∷ []
-lines (b ∷ bs) = cond (b == 10) ([] ∷ lines bs) (put b (lines bs))
+lines = slice_split (λ b. b == 10)
 
 abbrev pub answer_bytes : Result (Option Command) BadLine → List ℕ
 answer_bytes (Ok (Some c)) = bytes c
@@ -53,11 +47,24 @@ pub record StandsFor (text stream : List ℕ) : Type 0 where
   pub good : Good text (length (lines text))
   pub bytes_are : stream ≡ stream_of text
 
+-- a line, with its number counted from 1, was put at the end of a stream
+abbrev pub Appends : List ℕ → ℕ → List ℕ → Result (Unit {0}) BadText → List ℕ → Type 0
+Appends line number before (Ok done) after = (is_ok (meaning line) ≡ true) × (after ≡ before ++ line_bytes line)
+Appends line number before (Err (Line n)) after = (n ≡ number) × (is_ok (meaning line) ≡ false)
+Appends line number before (Err TooLong) after = ⊥
+Appends line number before (Err NoMemory) after = Unit {0}
+
 abbrev pub Encodes : List ℕ → Result (Vec ℕ Global) BadText → Type 0
 Encodes text (Ok stream) = StandsFor text (vec_items stream) × (length (vec_items stream) ≤ 65536)
 Encodes text (Err (Line number)) = FirstBad text number
 Encodes text (Err TooLong) = 65536 < length (stream_of text)
 Encodes text (Err NoMemory) = Unit {0}
+
+-- how it is told that a text gives no stream
+abbrev pub bad_text_told : BadText → List ℕ
+bad_text_told (Line number) = codes "line " ++ (decimal number ++ codes ": no command of this form")
+bad_text_told TooLong = codes "the commands come to more than 65536 bytes"
+bad_text_told NoMemory = codes "no memory is left"
 
 abbrev pub full_line : Command → List ℕ
 full_line c = line_of c ++ codes "\n"
@@ -73,3 +80,8 @@ abbrev pub Decodes : List ℕ → Result (String Global) BadStream → Type 0
 Decodes stream (Ok text) = Spelled stream (string_bytes text) × StandsFor (string_bytes text) stream
 Decodes stream (Err (At refused place)) = ((text : List ℕ) × Spelled (take place stream) text) × (reading stream place ≡ Some (told refused))
 Decodes stream (Err bad_stream.NoMemory) = Unit {0}
+
+-- how it is told that a stream gives no text
+abbrev pub bad_stream_told : BadStream → List ℕ
+bad_stream_told (At refused place) = codes "byte " ++ (decimal place ++ (codes ": refused with " ++ decimal (told refused).number))
+bad_stream_told bad_stream.NoMemory = codes "no memory is left"

@@ -2,11 +2,12 @@
 #![tactic(auto)]
 
 ghost use Rattle.std.specs.Prelude.{◌≡◌, IfOk, string_bytes};
-ghost use Rattle.text.specs.Lines.{line_of, command_of_one, command_of_two, command_of, meaning, Means};
+ghost use Rattle.commands.specs.Commands.{line_of};
+ghost use Rattle.text.specs.Lines.{command_of_one, command_of_two, command_of, meaning, Means};
 
 use commands::Command;
 use std::alloc::{AllocError, Global};
-use words::{is, number, split_word, without_return};
+use words::{number, split_word, without_return};
 
 pub mod stream;
 mod words;
@@ -18,26 +19,21 @@ pub struct BadLine;
 fn one_load(kind: &[u8], a: u16) -> Option<Command>
     ensures { result ≡ command_of_one kind.now a }
 {
-    if is(kind, b"withdraw") {
-        Some(Command::Withdraw(a))
-    } else if is(kind, b"depart") {
-        Some(Command::Depart(a))
-    } else if is(kind, b"partner") {
-        Some(Command::Partner(a))
-    } else {
-        None
+    match kind {
+        b"withdraw" => Some(Command::Withdraw(a)),
+        b"depart" => Some(Command::Depart(a)),
+        b"partner" => Some(Command::Partner(a)),
+        _ => None,
     }
 }
 
 fn two_loads(kind: &[u8], a: u16, b: u16) -> Option<Command>
     ensures { result ≡ command_of_two kind.now a b }
 {
-    if is(kind, b"link") {
-        Some(Command::Link(a, b))
-    } else if is(kind, b"unlink") {
-        Some(Command::Unlink(a, b))
-    } else {
-        None
+    match kind {
+        b"link" => Some(Command::Link(a, b)),
+        b"unlink" => Some(Command::Unlink(a, b)),
+        _ => None,
     }
 }
 
@@ -66,10 +62,7 @@ pub fn parse_line(line: &[u8]) -> Result<Option<Command>, BadLine>
     let (kind, rest) = split_word(without_return(line));
     match kind {
         [] | [b'#', ..] => Ok(None),
-        _ => match parse_command(kind, rest) {
-            Some(command) => Ok(Some(command)),
-            None => Err(BadLine),
-        },
+        _ => parse_command(kind, rest).map(Some).ok_or(BadLine),
     }
 }
 
@@ -78,11 +71,5 @@ pub fn format_line(heap: Global, command: Command) -> Result<String, AllocError>
     ensures value { IfOk result (λ text. string_bytes text ≡ line_of command) }
     ensures reads_back { Means (line_of command) command }
 {
-    match command {
-        Command::Link(a, b) => format!(in heap; "link {a} {b}"),
-        Command::Unlink(a, b) => format!(in heap; "unlink {a} {b}"),
-        Command::Withdraw(a) => format!(in heap; "withdraw {a}"),
-        Command::Depart(a) => format!(in heap; "depart {a}"),
-        Command::Partner(a) => format!(in heap; "partner {a}"),
-    }
+    format!(in heap; "{command}")
 }

@@ -1,17 +1,20 @@
 // Whole texts: to a stream of commands, and back.
-ghost use Rattle.std.specs.Prelude.{◌≡◌, ◌++◌, is_ok, IfOk, string_bytes, OnOk};
-ghost use Rattle.commands.specs.Commands.{bytes};
-ghost use Rattle.text.specs.Lines.{line_of, meaning, Means};
-ghost use Rattle.text.specs.Streams.{line_bytes, Encodes, full_line, Decodes};
+ghost use Rattle.std.specs.Prelude.{◌≡◌, ◌++◌, is_ok, IfOk, string_bytes, OnOk, Some};
+ghost use Rattle.commands.specs.Commands.{bytes, line_of};
+ghost use Rattle.text.specs.Lines.{Means};
+ghost use Rattle.text.specs.Streams.{Appends, Encodes, full_line, Decodes, bad_text_told, bad_stream_told};
+ghost use Rattle.text.specs.declared.stream.BadText.TheVariants as bad_text;
+ghost use Rattle.text.specs.declared.stream.BadStream.TheVariants as bad_stream;
 
-use crate::words::split_before;
-use crate::{format_line, parse_line};
+use crate::parse_line;
 use commands::{Command, LONGEST_STREAM, read};
 use links::Refused;
 use std::alloc::{AllocError, Global};
+use std::error::Error;
+use std::fmt;
 
 // Why a text gives no stream.
-#[derive(Clone, Copy)]
+#[derive(Clone, Copy, PartialEq, Eq, Debug)]
 pub enum BadText {
     // the number of the first line that is bad, counted from 1
     Line(usize),
@@ -19,35 +22,76 @@ pub enum BadText {
     NoMemory,
 }
 
+impl From<AllocError> for BadText {
+    ghost from_gives = { λ _ r. r ≡ bad_text.NoMemory };
+
+    fn from(_none: AllocError) -> BadText {
+        BadText::NoMemory
+    }
+}
+
+impl fmt::Display for BadText {
+    ghost output = { λ e. Some (bad_text_told e) };
+
+    fn fmt<W: fmt::Write>(&self, f: &mut fmt::Formatter<W>) -> fmt::Result {
+        match self {
+            Self::Line(number) => write!(f, "line {number}: no command of this form"),
+            Self::TooLong => f.write_str("the commands come to more than 65536 bytes"),
+            Self::NoMemory => f.write_str("no memory is left"),
+        }
+    }
+}
+
+impl Error for BadText {}
+
 // Why a stream gives no text.
-#[derive(Clone, Copy)]
+#[derive(Clone, Copy, PartialEq, Eq, Debug)]
 pub enum BadStream {
     // why, and the place of the command byte
     At(Refused, usize),
     NoMemory,
 }
 
+impl From<AllocError> for BadStream {
+    ghost from_gives = { λ _ r. r ≡ bad_stream.NoMemory };
+
+    fn from(_none: AllocError) -> BadStream {
+        BadStream::NoMemory
+    }
+}
+
+impl fmt::Display for BadStream {
+    ghost output = { λ e. Some (bad_stream_told e) };
+
+    fn fmt<W: fmt::Write>(&self, f: &mut fmt::Formatter<W>) -> fmt::Result {
+        match self {
+            Self::At(refused, place) => {
+                let number = refused.refusal.number();
+                write!(f, "byte {place}: refused with {number}")
+            }
+            Self::NoMemory => f.write_str("no memory is left"),
+        }
+    }
+}
+
+impl Error for BadStream {}
+
 fn push(stream: &mut Vec<u8>, command: Command) -> Result<(), AllocError>
     ensures { OnOk result (stream.new.items ≡ stream.old.items ++ bytes command) }
 {
     let mut room = [0; 5];
-    match command.write(&mut room) {
-        Ok(n) => stream.extend_from_slice(&room[0..n]),
-        Err(_) => unreachable(),
-    }
+    let n = command.write(&mut room).unwrap();
+    stream.extend_from_slice(&room[..n])
 }
 
-// Appends the command of a line, if it has one, and answers whether the line is good.
-fn push_line(stream: &mut Vec<u8>, line: &[u8]) -> Result<bool, AllocError>
-    ensures { IfOk result (λ good. (good ≡ is_ok (meaning line.now)) × (stream.new.items ≡ stream.old.items ++ line_bytes line.now)) }
+// Appends the bytes of the command of a line, if it has one. The number is that of the line.
+fn push_line(stream: &mut Vec<u8>, line: &[u8], number: usize) -> Result<(), BadText>
+    ensures { Appends line.now number stream.old.items result stream.new.items }
 {
     match parse_line(line) {
-        Ok(Some(command)) => {
-            push(stream, command)?;
-            Ok(true)
-        }
-        Ok(None) => Ok(true),
-        Err(_) => Ok(false),
+        Ok(Some(command)) => Ok(push(stream, command)?),
+        Ok(None) => Ok(()),
+        Err(_) => Err(BadText::Line(number)),
     }
 }
 
@@ -56,35 +100,21 @@ pub fn encode(heap: Global, text: &[u8]) -> Result<Vec<u8>, BadText>
     ensures { Encodes text.now result }
 {
     let mut stream = Vec::new(heap);
-    let mut rest = text;
-    let mut number = 0;
-    loop {
-        let (line, after) = split_before(rest, b'\n');
-        number += 1;
-        let Ok(good) = push_line(&mut stream, line) else {
-            return Err(BadText::NoMemory);
-        };
-        if !good {
-            return Err(BadText::Line(number));
-        }
+    for (i, line) in text.split(|byte| *byte == b'\n').enumerate() {
+        push_line(&mut stream, line, i + 1)?;
         if stream.len() > LONGEST_STREAM {
             return Err(BadText::TooLong);
         }
-        if after.is_empty() {
-            return Ok(stream);
-        }
-        rest = &after[1..];
     }
+    Ok(stream)
 }
 
 // Appends the line of a command and a line feed.
-fn push_full_line(text: &mut String, heap: Global, command: Command) -> Result<(), AllocError>
-    ensures { OnOk result ((string_bytes text.new ≡ string_bytes text.old ++ full_line command) × Means (line_of command) command) }
+fn push_full_line(text: &mut String, command: Command) -> Result<(), AllocError>
+    ensures line { OnOk result (string_bytes text.new ≡ string_bytes text.old ++ full_line command) }
+    ensures reads_back { Means (line_of command) command }
 {
-    let line = format_line(heap, command)?;
-    text.push_str(line.as_str())?;
-    text.push('\n')?;
-    Ok(())
+    writeln!(text, "{command}")
 }
 
 // The text of the commands of a stream, a line for each.
@@ -93,17 +123,9 @@ pub fn decode(heap: Global, stream: &[u8]) -> Result<String, BadStream>
 {
     let mut text = String::new(heap);
     let mut place = 0;
-    loop {
-        let found = match read(stream, place) {
-            Ok(found) => found,
-            Err(refused) => return Err(BadStream::At(refused, place)),
-        };
-        let Some(decoded) = found else {
-            return Ok(text);
-        };
-        let Ok(()) = push_full_line(&mut text, heap, decoded.command) else {
-            return Err(BadStream::NoMemory);
-        };
+    while let Some(decoded) = read(stream, place).map_err(|e| BadStream::At(e, place))? {
+        push_full_line(&mut text, decoded.command)?;
         place = decoded.next;
     }
+    Ok(text)
 }

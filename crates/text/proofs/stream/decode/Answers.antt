@@ -1,16 +1,19 @@
-use Rattle.std.proofs.Common.{sym, ◌∙◌}
+use Rattle.std.proofs.Common.{◌≡◌, Some, None, Ok, rules}
 use Rattle.std.proofs.lemmas.List.{take_all}
 use Rattle.text.proofs.Texts.{spelled_more, spelled_stands, ended}
 use Rattle.text.proofs.stream.decode.Goals as goal
 
-pub loop-found-preserved : goal.loop-found-preserved
-loop-found-preserved c =
-    let spans = rw c.in-Some.is at c.in-Ok.ensures.spanned in
-    rw c.in-Ok-push_full_line.ensures.0
-    (spelled_more _ _ _ _ _ c.loop-found.invariant spans.ahead spans.within spans.written c.in-Ok-push_full_line.ensures.1)
+pub loop-text-preserved : goal.loop-text-preserved
+loop-text-preserved c =
+    let was : c.read.result ≡ Ok (Some c.in-Some.decoded) = search rules in
+    let spans = rw was at c.read.ensures.spanned in
+    rw c.in_ok-push_full_line.ensures.line
+    (spelled_more _ _ _ _ _ c.loop-text.invariant spans.ahead spans.within spans.written c.in_ok-push_full_line.ensures.reads_back)
 
-pub returns-in_default : goal.returns-in_default
-returns-in_default c =
-    let over = ended c.args.stream.now c.loop-found.place (sym c.in_default.is ∙ c.in-Ok.ensures.value.1) in
-    let spelled = rw (take_all c.loop-found.place c.args.stream.now over) at c.loop-found.invariant in
+pub returns : goal.returns
+returns c =
+    let was : c.read.result ≡ Ok None = search rules in
+    let none = rw was at c.read.ensures.value in
+    let over = ended c.args.stream.now c.loop-text.place none.1 in
+    let spelled = rw (take_all c.loop-text.place c.args.stream.now over) at c.loop-text.invariant in
     (spelled, spelled_stands spelled)

@@ -2,8 +2,8 @@ use Rattle.std.proofs.Common.{◌-◌, length, take, string_bytes}
 use Rattle.text.specs.Streams.{Spelled}
 use Rattle.text.proofs.stream.decode.Given as goal
 
-abbrev pub invariant-loop-found : goal.invariant-loop-found
-invariant-loop-found l = Spelled (take l.place l.stream) (string_bytes l.text)
+abbrev pub invariant-loop-text : goal.invariant-loop-text
+invariant-loop-text l = Spelled (take l.place l.stream) (string_bytes l.text)
 
-abbrev pub decreases-loop-found : goal.decreases-loop-found
-decreases-loop-found l = length l.stream - l.place
+abbrev pub decreases-loop-text : goal.decreases-loop-text
+decreases-loop-text l = length l.stream - l.place

@@ -1,46 +1,46 @@
-use Rattle.std.proofs.Common.{◌≡◌, ℕ, ◌-◌, ◌<◌, false, eqb, List, ◌++◌, length, take, drop, is_ok, vec_items, sym, ap, ◌∙◌, arith, length-drop}
-use Rattle.std.proofs.lemmas.List.{nil_from_length, take_rest}
-use Rattle.std.proofs.lemmas.Bool.{eqb-true, eqb-false}
-use Rattle.text.specs.Lines.{meaning}
-use Rattle.text.specs.Streams.{line_bytes}
-use Rattle.text.specs.Words.{front}
-use Rattle.text.proofs.Texts.{first_bad, too_long, sofar_more, sofar_all, length_past_le}
+use Rattle.std.proofs.Common.{◌≡◌, ◌+◌, ◌<◌, eqb, [], length, get_or, rules, tests, arith, ap, ◌∙◌, zero-add}
+use Rattle.std.specs.List.{enumerate_from}
+use Rattle.std.proofs.lemmas.List.{length_push, get_or_default}
+use Rattle.std.proofs.lemmas.List.FromFn.{get_or-enumerate_from, length-enumerate_from}
+use Rattle.std.proofs.lemmas.Result.{err_from_is_err_and}
+use Rattle.std.proofs.lemmas.Iterator.Consumers.{YieldsList-at, YieldsList-from_enumerate, YieldsList-turn, YieldsList-end}
+use Rattle.std.proofs.lemmas.Iterator.Splits.{YieldsList-from_slice_split}
+use Rattle.text.specs.Streams.{lines}
+use Rattle.text.proofs.Texts.{refused, too_long, sofar_more, sofar_all}
 use Rattle.text.proofs.stream.encode.Goals as goal
-use Rattle.text.proofs.stream.encode.Goals.{In-Ok}
+use Rattle.text.proofs.stream.encode.Goals.{In-Some}
 
-some_bytes : (bytes : List ℕ) → eqb (length bytes) 0 ≡ false → 0 < length bytes
-some_bytes bytes some = let other = eqb-false (length bytes) 0 some in omega arith
+turn : (c : In-Some) → (length c.loop-i.yielded < length (lines c.args.text.now)) × ((c.in-Some.i ≡ length c.loop-i.yielded) × (c.in-Some.line.now ≡ get_or (lines c.args.text.now) (length c.loop-i.yielded) []))
+turn c =
+    let all = enumerate_from 0 (lines c.args.text.now) in
+    let t = YieldsList-turn {all = all} (YieldsList-at c.into_iter-i-iterator.ensures.into_iter_gives
+    (YieldsList-from_enumerate (YieldsList-at c.enumerate-i-items.ensures.source (YieldsList-from_slice_split _ (λ b. eqb b 10) c.args.text.now c.split.ensures.rest c.split.ensures.done c.split.ensures.closure (λ x b q k. search (rules, tests)))) c.enumerate-i-items.ensures.count))
+    c.loop-i.yielded _ c.loop-i.yielded_by _ _ (c.in-Some.i, c.in-Some.line) c.in-Some.is c.next.ensures.steps in
+    let inside : length c.loop-i.yielded < length (lines c.args.text.now) = omega (arith, t.0, length-enumerate_from 0 (lines c.args.text.now)) in
+    let is = t.1 ∙ get_or-enumerate_from 0 (lines c.args.text.now) (length c.loop-i.yielded) _ inside in
+    (inside, (ap (λ p. p.0) is ∙ zero-add (length c.loop-i.yielded), ap (λ p. p.1) is ∙ get_or_default (lines c.args.text.now) (length c.loop-i.yielded) _ [] inside))
 
--- what the line that was just read gave
-follows : (c : In-Ok) → vec_items c.push_line.new.stream ≡ vec_items c.loop-good.stream ++ line_bytes (front 10 c.loop-good.rest.now)
-follows c = c.in-Ok.ensures.1 ∙ ap (λ line. vec_items c.loop-good.stream ++ line_bytes line) c.split_before.ensures.before
-
-answered : (c : In-Ok) → is_ok (meaning (front 10 c.loop-good.rest.now)) ≡ c.in-Ok.good
-answered c = ap (λ line. is_ok (meaning line)) (sym c.split_before.ensures.before) ∙ sym c.in-Ok.ensures.0
-
-pub returns-then-not-good : goal.returns-then-not-good
-returns-then-not-good c = first_bad c.loop-good.invariant (answered (goal.at.returns-then-not-good c).In-Ok ∙ c.if-not-good.true)
+pub returns-in_err-push_line : goal.returns-in_err-push_line
+returns-in_err-push_line c =
+    let t = turn (goal.at.returns-in_err-push_line c).In-Some in
+    let p = err_from_is_err_and c.from_residual.result c.from_residual.ensures.1 in
+    rw (p.1, p.2) (refused c.loop-i.invariant _ t.0 t.1.1 _ _ c.in_err-push_line.field-0.0 (ap (λ i. i + 1) t.1.0) c.in_err-push_line.ensures)
 
 pub returns-then-len-gt-LONGEST_STREAM : goal.returns-then-len-gt-LONGEST_STREAM
 returns-then-len-gt-LONGEST_STREAM c =
-    too_long c.loop-good.invariant _ (follows (goal.at.returns-then-len-gt-LONGEST_STREAM c).In-Ok) (omega (arith, c.push_line.new.stream.ok.0))
+    let t = turn (goal.at.returns-then-len-gt-LONGEST_STREAM c).In-Some in
+    too_long c.loop-i.invariant _ t.0 t.1.1 _ c.in_ok-push_line.ensures.1 (omega (arith, c.push_line.new.stream.ok.0))
 
-pub returns-then-is_empty : goal.returns-then-is_empty
-returns-then-is_empty c =
-    let at = (goal.at.returns-then-is_empty c).In-Ok in
-    let none = sym c.split_before.ensures.rest ∙ nil_from_length _ (eqb-true _ 0 (sym c.if-is_empty.ensures)) in
-    (sofar_all c.loop-good.invariant _ (follows at) (answered at ∙ c.if-not-good.false) none, omega (arith, c.push_line.new.stream.ok.0))
+pub loop-i-preserved : goal.loop-i-preserved
+loop-i-preserved c =
+    let t = turn (goal.at.loop-i-preserved c).In-Some in
+    rw (length_push c.loop-i.yielded (c.in-Some.i, c.in-Some.line))
+    (sofar_more c.loop-i.invariant _ t.0 t.1.1 _ c.in_ok-push_line.ensures.1 c.in_ok-push_line.ensures.0 (omega (arith, c.push_line.new.stream.ok.0)))
 
-pub loop-good-smaller : goal.loop-good-smaller
-loop-good-smaller c =
-    let after = c.split_before.result.1.now in
-    let some : 0 < length after = some_bytes after (sym c.if-is_empty.ensures) in
-    let shorter : length (take (length after - 1) (drop 1 after)) < length c.loop-good.rest.now =
-    omega (arith, ap length (take_rest after 1), length-drop 1 after, ap length c.split_before.ensures.rest, length_past_le 10 c.loop-good.rest.now) in
-    shorter
-
-pub loop-good-preserved : goal.loop-good-preserved
-loop-good-preserved c =
-    let at = (goal.at.loop-good-preserved c).In-Ok in
-    rw (take_rest c.split_before.result.1.now 1, c.split_before.ensures.rest)
-    (sofar_more c.loop-good.invariant _ (follows at) (answered at ∙ c.if-not-good.false) (omega (arith, ap length c.split_before.ensures.rest, some_bytes c.split_before.result.1.now (sym c.if-is_empty.ensures))) (omega (arith, c.push_line.new.stream.ok.0)))
+pub returns : goal.returns
+returns c =
+    let all = enumerate_from 0 (lines c.args.text.now) in
+    let e = YieldsList-end {all = all} (YieldsList-at c.into_iter-i-iterator.ensures.into_iter_gives
+    (YieldsList-from_enumerate (YieldsList-at c.enumerate-i-items.ensures.source (YieldsList-from_slice_split _ (λ b. eqb b 10) c.args.text.now c.split.ensures.rest c.split.ensures.done c.split.ensures.closure (λ x b q k. search (rules, tests)))) c.enumerate-i-items.ensures.count))
+    c.loop-i.yielded _ c.loop-i.yielded_by _ _ c.in-None.is c.next.ensures.steps in
+    (sofar_all c.loop-i.invariant (omega (arith, e.1, length-enumerate_from 0 (lines c.args.text.now))), c.loop-i.invariant.short)

@@ -1,16 +1,13 @@
-use Rattle.std.proofs.Common.{sym, ◌∙◌, arith}
+use Rattle.std.proofs.Common.{rules, tests, drop, ap, ◌∙◌, not, eqb}
 use Rattle.std.proofs.lemmas.List.{take_rest}
-use Rattle.text.proofs.Splitting.{unspaced_more, unspaced_here, unspaced_all}
+use Rattle.std.proofs.lemmas.Iterator.{YieldsList-from_slice}
+use Rattle.std.proofs.lemmas.Iterator.Search.{position_from_yields_List}
+use Rattle.text.proofs.Splitting.{unspaced_is, place_is}
 use Rattle.text.proofs.words.skip_spaces.Goals as goal
-use Rattle.text.proofs.words.skip_spaces.Goals.{then-loop-at-test+else-text-at-eq32, else-loop-at-test}
-
-pub loop-at-preserved : goal.loop-at-preserved
-loop-at-preserved c = (omega arith, sym (unspaced_more _ _ c.loop-at-test.true c.if-text-at-eq32.true) ∙ c.loop-at.invariant.1)
 
 pub returns : goal.returns
 returns c =
-    take_rest c.args.text.now c.loop-at.at
-    ∙ elim c.loop-at-test.branch [
-      | then-loop-at-test+else-text-at-eq32 w ↦ sym (unspaced_here _ _ w.loop-at-test.true w.if-text-at-eq32.false) ∙ c.loop-at.invariant.1
-      | else-loop-at-test w ↦ sym (unspaced_all _ _ w.loop-at-test.false) ∙ c.loop-at.invariant.1
-    ]
+    let text = c.args.text.now in
+    let found = position_from_yields_List (λ b. not (eqb b 32)) _ _ c.position-start.result c.position-start.ensures.ran (YieldsList-from_slice text cc) (λ x b q k. search (rules, tests)) in
+    let place = place_is (λ b. not (eqb b 32)) text _ found in
+    take_rest text c.unwrap_or.result ∙ (ap (λ k. drop k text) (c.unwrap_or.ensures ∙ place) ∙ unspaced_is text)
