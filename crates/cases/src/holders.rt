@@ -2,13 +2,9 @@
 use books::bit_matrix::BitMatrix;
 use filter::ClassFilter;
 use link_list::{Entry, LinkList};
-use links::{Book, Layer, Links, Refusal, Refused};
+use links::{Book, Layer, Links, Refusal};
 use rows::SortedRows;
 use std::test::Fail;
-
-fn by_book(refusal: Refusal) -> Result<(), Refused> {
-    Err(refusal.by(Layer::Book))
-}
 
 #[test]
 fn row_limits(rt: HostRuntime) {
@@ -16,21 +12,21 @@ fn row_limits(rt: HostRuntime) {
     assert_eq!(rt; SortedRows::check(256, 255, 32640, &numbers), Ok(()));
     assert_eq!(rt;
         SortedRows::check(256, 255, 32640, &numbers[0..65535]),
-        by_book(Refusal::WrongLength)
+        Err(Refusal::WrongLength.by(Layer::Book))
     );
     assert_eq!(rt;
         SortedRows::check(257, 0, 0, &numbers),
-        by_book(Refusal::SizeOutOfRange)
+        Err(Refusal::SizeOutOfRange.by(Layer::Book))
     );
     for (row_limit, limit) in [(0, 1), (256, 1), (1, 0), (1, 32641)] {
         assert_eq!(rt;
             SortedRows::check(1, row_limit, limit, &[]),
-            by_book(Refusal::LimitOutOfRange)
+            Err(Refusal::LimitOutOfRange.by(Layer::Book))
         );
     }
     assert_eq!(rt;
         SortedRows::check(3, 1, 3, &numbers[0..5]),
-        by_book(Refusal::WrongLength)
+        Err(Refusal::WrongLength.by(Layer::Book))
     );
 }
 
@@ -51,7 +47,7 @@ fn full_rows(rt: HostRuntime) -> Result<(), Fail> {
         assert_eq!(rt; book.spare(a), 0);
         assert_eq!(rt; book.row_break(a), None);
     }
-    assert_eq!(rt; book.add(3, 4), by_book(Refusal::AlreadyLinked));
+    assert_eq!(rt; book.add(3, 4), Err(Refusal::AlreadyLinked.by(Layer::Book)));
     assert_eq!(rt; book.next_linked(4, 4), Some(5));
     Ok(())
 }
@@ -63,8 +59,8 @@ fn row_layout(rt: HostRuntime) {
     let mut book = SortedRows::new(4, 2, 5, &mut numbers);
     assert_eq!(rt; book.add(0, 3), Ok(()));
     assert_eq!(rt; book.add(1, 0), Ok(()));
-    assert_eq!(rt; book.add(0, 2), by_book(Refusal::LoadFull));
-    assert_eq!(rt; book.remove(2, 1), by_book(Refusal::NotLinked));
+    assert_eq!(rt; book.add(0, 2), Err(Refusal::LoadFull.by(Layer::Book)));
+    assert_eq!(rt; book.remove(2, 1), Err(Refusal::NotLinked.by(Layer::Book)));
     assert_eq!(rt; book.next_linked(0, 2), Some(3));
     assert_eq!(rt; numbers, [2, 1, 3, 1, 0, 0, 0, 0, 0, 1, 0, 0, 9, 9]);
 }
@@ -101,8 +97,8 @@ fn hidden_links(rt: HostRuntime) {
     // classes 1 and 2 may not travel together; load 3 has class 0
     let mut book = ClassFilter::new(below, &[1, 2, 2], [0, 4, 0, 0, 0, 0, 0, 0]);
     assert_eq!(rt; book.linked(0, 1), false);
-    assert_eq!(rt; book.add(0, 1), by_book(Refusal::Barred));
-    assert_eq!(rt; book.remove(1, 0), by_book(Refusal::NotLinked));
+    assert_eq!(rt; book.add(0, 1), Err(Refusal::Barred.by(Layer::Book)));
+    assert_eq!(rt; book.remove(1, 0), Err(Refusal::NotLinked.by(Layer::Book)));
     assert_eq!(rt; book.degree(0), 1);
     assert_eq!(rt; book.next_linked(0, 0), Some(3));
     assert_eq!(rt; book.link_count(), 1);
@@ -122,12 +118,21 @@ fn lists(rt: HostRuntime) {
     assert_eq!(rt; LinkList::check(4, &[]), Ok(()));
     assert_eq!(rt;
         LinkList::check(0, &entries),
-        by_book(Refusal::SizeOutOfRange)
+        Err(Refusal::SizeOutOfRange.by(Layer::Book))
     );
-    assert_eq!(rt; LinkList::check(257, &[]), by_book(Refusal::SizeOutOfRange));
+    assert_eq!(rt;
+        LinkList::check(257, &[]),
+        Err(Refusal::SizeOutOfRange.by(Layer::Book))
+    );
     // the last entry does not rise; with three loads the second is out of bounds
-    assert_eq!(rt; LinkList::check(4, &entries), by_book(Refusal::BadEntry(3)));
-    assert_eq!(rt; LinkList::check(3, &entries), by_book(Refusal::BadEntry(1)));
+    assert_eq!(rt;
+        LinkList::check(4, &entries),
+        Err(Refusal::BadEntry(3).by(Layer::Book))
+    );
+    assert_eq!(rt;
+        LinkList::check(3, &entries),
+        Err(Refusal::BadEntry(1).by(Layer::Book))
+    );
     let refused = LinkList::new(4, &entries);
     assert_eq!(rt; refused.size(), 0);
     assert_eq!(rt; refused.link_count(), 0);

@@ -1,10 +1,6 @@
 // The bit matrix at its limits, and the numbers of the refusals.
 use books::bit_matrix::BitMatrix;
-use links::{Book, Layer, Links, Refusal, Refused};
-
-fn by_book(refusal: Refusal) -> Result<(), Refused> {
-    Err(refusal.by(Layer::Book))
-}
+use links::{Book, Layer, Links, Refusal};
 
 #[test]
 fn numbers(rt: HostRuntime) {
@@ -39,7 +35,7 @@ fn sizes(rt: HostRuntime) {
     for size in [0, 257, usize::MAX] {
         assert_eq!(rt;
             BitMatrix::check(size, 1, &words),
-            by_book(Refusal::SizeOutOfRange)
+            Err(Refusal::SizeOutOfRange.by(Layer::Book))
         );
     }
 }
@@ -53,17 +49,17 @@ fn limits(rt: HostRuntime) {
     for limit in [0, 32641, usize::MAX] {
         assert_eq!(rt;
             BitMatrix::check(256, limit, &words),
-            by_book(Refusal::LimitOutOfRange)
+            Err(Refusal::LimitOutOfRange.by(Layer::Book))
         );
     }
     // the first reason counts
     assert_eq!(rt;
         BitMatrix::check(0, 0, &[]),
-        by_book(Refusal::SizeOutOfRange)
+        Err(Refusal::SizeOutOfRange.by(Layer::Book))
     );
     assert_eq!(rt;
         BitMatrix::check(1, 0, &[]),
-        by_book(Refusal::LimitOutOfRange)
+        Err(Refusal::LimitOutOfRange.by(Layer::Book))
     );
 }
 
@@ -82,7 +78,7 @@ fn memory(rt: HostRuntime) {
         assert_eq!(rt; BitMatrix::check(size, 1, &words[0..need]), Ok(()));
         assert_eq!(rt;
             BitMatrix::check(size, 1, &words[0..need - 1]),
-            by_book(Refusal::WrongLength)
+            Err(Refusal::WrongLength.by(Layer::Book))
         );
     }
 }
@@ -116,7 +112,7 @@ fn made_in_spite(rt: HostRuntime) {
     let mut book = BitMatrix::new(3, 5, &mut words);
     assert_eq!(rt; book.size(), 0);
     assert_eq!(rt; book.limit(), 0);
-    assert_eq!(rt; book.add(0, 1), by_book(Refusal::NoSuchLoad));
+    assert_eq!(rt; book.add(0, 1), Err(Refusal::NoSuchLoad.by(Layer::Book)));
     assert_eq!(rt; words, [7, 7]);
 }
 
@@ -124,15 +120,15 @@ fn made_in_spite(rt: HostRuntime) {
 fn refusals(rt: HostRuntime) {
     let mut words = [0u64; 4];
     let mut book = BitMatrix::new(4, 1, &mut words);
-    assert_eq!(rt; book.add(0, 4), by_book(Refusal::NoSuchLoad));
-    assert_eq!(rt; book.add(4, 4), by_book(Refusal::NoSuchLoad));
-    assert_eq!(rt; book.add(2, 2), by_book(Refusal::SameLoad));
-    assert_eq!(rt; book.remove(0, 1), by_book(Refusal::NotLinked));
+    assert_eq!(rt; book.add(0, 4), Err(Refusal::NoSuchLoad.by(Layer::Book)));
+    assert_eq!(rt; book.add(4, 4), Err(Refusal::NoSuchLoad.by(Layer::Book)));
+    assert_eq!(rt; book.add(2, 2), Err(Refusal::SameLoad.by(Layer::Book)));
+    assert_eq!(rt; book.remove(0, 1), Err(Refusal::NotLinked.by(Layer::Book)));
     assert_eq!(rt; book.add(0, 1), Ok(()));
-    assert_eq!(rt; book.add(1, 0), by_book(Refusal::AlreadyLinked));
-    assert_eq!(rt; book.add(2, 3), by_book(Refusal::BookFull));
-    assert_eq!(rt; book.remove(1, 1), by_book(Refusal::SameLoad));
-    assert_eq!(rt; book.remove(1, 9), by_book(Refusal::NoSuchLoad));
+    assert_eq!(rt; book.add(1, 0), Err(Refusal::AlreadyLinked.by(Layer::Book)));
+    assert_eq!(rt; book.add(2, 3), Err(Refusal::BookFull.by(Layer::Book)));
+    assert_eq!(rt; book.remove(1, 1), Err(Refusal::SameLoad.by(Layer::Book)));
+    assert_eq!(rt; book.remove(1, 9), Err(Refusal::NoSuchLoad.by(Layer::Book)));
     assert_eq!(rt; book.link_count(), 1);
     assert_eq!(rt; book.remove(1, 0), Ok(()));
     assert_eq!(rt; book.add(2, 3), Ok(()));

@@ -1,59 +1,46 @@
 // Plays a morning at an exchange on a board, and says what each call answers and who is paired after it.
 #![tactic(auto)]
 
+use audit::NO_PARTNER;
 use board::Board;
 use books::bit_matrix::BitMatrix;
+use commands::Command;
 use links::{Book, Refused};
 use ranking::{ByNumber, Ranking};
-use std::io;
-use telling::{NONE, answer, judge};
-
-#[derive(Clone, Copy)]
-enum Call {
-    Link(usize, usize),
-    Unlink(usize, usize),
-    Withdraw(usize),
-    Depart(usize),
-}
+use std::{array, io};
+use telling::{answer, judge};
 
 const SIZE: usize = 8;
 
 // The six loads and the cancellation that once left two of them alone, some mistakes, a withdrawal and a departure.
-const MORNING: [Call; 17] = [
-    Call::Link(0, 1),
-    Call::Link(2, 3),
-    Call::Link(0, 2),
-    Call::Link(1, 3),
-    Call::Link(1, 5),
-    Call::Link(3, 4),
-    Call::Link(6, 6),
-    Call::Link(0, 8),
-    Call::Link(1, 0),
-    Call::Unlink(4, 5),
-    Call::Unlink(0, 1),
-    Call::Link(6, 7),
-    Call::Link(4, 6),
-    Call::Withdraw(3),
-    Call::Depart(3),
-    Call::Link(3, 7),
-    Call::Depart(0),
+const MORNING: [Command; 17] = [
+    Command::Link(0, 1),
+    Command::Link(2, 3),
+    Command::Link(0, 2),
+    Command::Link(1, 3),
+    Command::Link(1, 5),
+    Command::Link(3, 4),
+    Command::Link(6, 6),
+    Command::Link(0, 8),
+    Command::Link(1, 0),
+    Command::Unlink(4, 5),
+    Command::Unlink(0, 1),
+    Command::Link(6, 7),
+    Command::Link(4, 6),
+    Command::Withdraw(3),
+    Command::Depart(3),
+    Command::Link(3, 7),
+    Command::Depart(0),
 ];
 
-fn say(rt: &impl Print, call: Call) -> io::Result<()> {
-    match call {
-        Call::Link(a, b) => print!(rt; "link {a} {b}"),
-        Call::Unlink(a, b) => print!(rt; "unlink {a} {b}"),
-        Call::Withdraw(a) => print!(rt; "withdraw {a}"),
-        Call::Depart(a) => print!(rt; "depart {a}"),
-    }
-}
-
-fn make<B: Book, R: Ranking>(board: &mut Board<B, R>, call: Call) -> Result<(), Refused> {
-    match call {
-        Call::Link(a, b) => board.link(a, b),
-        Call::Unlink(a, b) => board.unlink(a, b),
-        Call::Withdraw(a) => board.withdraw(a),
-        Call::Depart(a) => board.depart(a),
+// Makes the call that a command stands for.
+fn make<B: Book, R: Ranking>(board: &mut Board<B, R>, command: Command) -> Result<(), Refused> {
+    match command {
+        Command::Link(a, b) => board.link(usize::from(a), usize::from(b)),
+        Command::Unlink(a, b) => board.unlink(usize::from(a), usize::from(b)),
+        Command::Withdraw(a) => board.withdraw(usize::from(a)),
+        Command::Depart(a) => board.depart(usize::from(a)),
+        Command::Partner(a) => board.partner(usize::from(a)).map(|_| ()),
     }
 }
 
@@ -72,13 +59,10 @@ fn list_partners<B: Book, R: Ranking>(rt: &impl Print, board: &Board<B, R>) -> i
 
 // The partners that the board tells, as claims for the audit.
 fn claims<B: Book, R: Ranking>(board: &Board<B, R>) -> [u16; SIZE] {
-    let mut claims = [NONE; SIZE];
-    for a in 0..SIZE {
-        if let Ok(Some(b)) = board.partner(a) {
-            claims[a] = u16::try_from(b).unwrap_or(NONE);
-        }
-    }
-    claims
+    array::from_fn(|a| match board.partner(a) {
+        Ok(Some(b)) => u16::try_from(b).unwrap_or(NO_PARTNER),
+        _ => NO_PARTNER,
+    })
 }
 
 fn main(rt: HostRuntime) -> io::Result<()> {
@@ -87,9 +71,8 @@ fn main(rt: HostRuntime) -> io::Result<()> {
     )?;
     let mut words = [0; SIZE];
     let mut board = Board::open(BitMatrix::new(SIZE, 9, &mut words), ByNumber);
-    for call in MORNING {
-        say(&rt, call)?;
-        answer(&rt, make(&mut board, call))?;
+    for command in MORNING {
+        answer(&rt, command, make(&mut board, command))?;
         list_partners(&rt, &board)?;
     }
     println!(rt; "{} pairs are left.", board.pairs())?;

@@ -2,17 +2,15 @@
 #![tactic(auto)]
 
 use audit::{Verdict, audit};
+use commands::Command;
 use links::{Links, Refused};
 use std::io;
 
-// No partner.
-pub const NONE: u16 = 65535;
-
-// What a call answered, to the end of its line.
-pub fn answer(rt: &impl Print, granted: Result<(), Refused>) -> io::Result<()> {
+// A command, and what the call that it stands for answered.
+pub fn answer(rt: &impl Print, command: Command, granted: Result<(), Refused>) -> io::Result<()> {
     match granted {
-        Ok(()) => println!(rt; ": ok"),
-        Err(refused) => println!(rt; ": {refused}"),
+        Ok(()) => println!(rt; "{command}: ok"),
+        Err(refused) => println!(rt; "{command}: {refused}"),
     }
 }
 
