@@ -6,7 +6,7 @@ pub returns-then-from-ge64 : goal.returns-then-from-ge64
 returns-then-from-ge64 c = λ j l. none_past c.args.word c.args.from j (omega arith) c.if-from-ge64.true l
 
 pub returns-then-rest-eq0 : goal.returns-then-rest-eq0
-returns-then-rest-eq0 c = λ j l. none_high c.args.word c.args.from j (omega arith) c.if-rest-eq0.true l
+returns-then-rest-eq0 c = λ j l. none_high c.args.word c.args.from j (omega arith) (omega arith) c.if-rest-eq0.true l
 
 pub returns : goal.returns
-returns c = next_high c.args.word c.args.from (omega arith) c.if-rest-eq0.false
+returns c = next_high c.args.word c.args.from (omega arith) (omega arith) c.if-rest-eq0.false
