@@ -7,7 +7,7 @@ use Rattle.commands.specs.Commands.{bytes, decoding, decoded, reading, read_at, 
 use Rattle.commands.specs.declared.Command.{Command}
 use Rattle.commands.specs.declared.Command.TheVariants.{Link, Unlink, Withdraw, Depart, Partner}
 
-reading_inside : (stream : List ℕ) (place : ℕ) → length stream ≤ 65536 → place < length stream → reading stream place ≡ decoding (drop place stream)
+pub reading_inside : (stream : List ℕ) (place : ℕ) → length stream ≤ 65536 → place < length stream → reading stream place ≡ decoding (drop place stream)
 reading_inside stream place short inside = grind (arith, nat_tests)
 
 read_at_inside : (stream : List ℕ) (place : ℕ) → place < length stream → read_at stream place ≡ Some (followed place (decoded (drop place stream)))

@@ -1,43 +1,66 @@
--- Spaces and words, as places of a text.
-use Rattle.std.proofs.Common.{◌≡◌, ℕ, suc, ◌+◌, Bool, true, false, eqb, ltb, not, List, [], ◌∷◌, length, take, drop, Option, refl, ap, ◌∙◌, ⊎_elim, arith}
-use Rattle.std.specs.Option.{unwrap_or}
-use Rattle.std.specs.List.{position, position_or_len}
-use Rattle.std.proofs.lemmas.List.Sums.{prefix_len-le-length}
-use Rattle.std.proofs.lemmas.Bool.{cases_Bool, ltb-false}
-use Rattle.text.specs.Words.{unspaced, front, past}
+-- The words of a text: its parts between spaces that have some byte.
+use Rattle.std.proofs.Common.{◌≡◌, ℕ, ◌<◌, zero, suc, Bool, true, false, eqb, not, List, [], ◌∷◌, length, get_or, inl, inr, refl, ap, sym, ◌∙◌, ⊎_elim, arith}
+use Rattle.std.specs.Prelude.{◌⊎◌}
+use Rattle.std.specs.List.{slice_split, onto_first, filter}
+use Rattle.std.proofs.lemmas.Bool.{cases_Bool, cond-true, cond-false, ne_eqb}
+use Rattle.text.specs.Words.{unspaced, front, past, word, empty}
 
-one_more : (n : ℕ) → 1 + n ≡ suc n
-one_more n = omega arith
+abbrev pub filled : List ℕ → Bool
+filled part = not (empty part)
 
-pub front_is : (s : ℕ) (text : List ℕ) → take (position_or_len (λ b. eqb b s) text) text ≡ front s text
-front_is s [] = refl
-front_is s (b ∷ bs) =
+abbrev pub words_of : List ℕ → List (List ℕ)
+words_of text = filter filled (slice_split (λ b. eqb b 32) text)
+
+-- the parts after the first
+abbrev later : List ℕ → List (List ℕ)
+later [] = []
+later (b ∷ bs) = slice_split (λ b. eqb b 32) bs
+
+parts_are : (text : List ℕ) → slice_split (λ b. eqb b 32) text ≡ front 32 text ∷ later (past 32 text)
+parts_are [] = refl
+parts_are (b ∷ bs) =
     ⊎_elim
-    (λ (here : eqb b s ≡ true). rw here refl)
-    (λ (other : eqb b s ≡ false). rw other (ap (λ k. take k (b ∷ bs)) (one_more _) ∙ ap (λ l. b ∷ l) (front_is s bs)))
-    (cases_Bool (eqb b s))
-
-pub past_is : (s : ℕ) (text : List ℕ) → drop (position_or_len (λ b. eqb b s) text) text ≡ past s text
-past_is s [] = refl
-past_is s (b ∷ bs) =
-    ⊎_elim
-    (λ (here : eqb b s ≡ true). rw here refl)
-    (λ (other : eqb b s ≡ false). rw other (ap (λ k. drop k (b ∷ bs)) (one_more _) ∙ past_is s bs))
-    (cases_Bool (eqb b s))
-
-pub unspaced_is : (text : List ℕ) → drop (position_or_len (λ b. not (eqb b 32)) text) text ≡ unspaced text
-unspaced_is [] = refl
-unspaced_is (b ∷ bs) =
-    ⊎_elim
-    (λ (space : eqb b 32 ≡ true). rw space (ap (λ k. drop k (b ∷ bs)) (one_more _) ∙ unspaced_is bs))
-    (λ (other : eqb b 32 ≡ false). rw other refl)
+    (λ (space : eqb b 32 ≡ true). rw space refl)
+    (λ (other : eqb b 32 ≡ false). rw other (ap (onto_first b) (parts_are bs)))
     (cases_Bool (eqb b 32))
 
--- a place, or the end where there is none
-pub place_is : (p : ℕ → Bool) (text : List ℕ) (r : Option ℕ) → r ≡ position p text → unwrap_or r (length text) ≡ position_or_len p text
-place_is p text r is =
-    rw is
-    (⊎_elim
-    (λ (found : ltb (position_or_len p text) (length text) ≡ true). rw found refl)
-    (λ (none : ltb (position_or_len p text) (length text) ≡ false). rw none (omega (arith, ltb-false _ _ none, prefix_len-le-length (λ b. not (p b)) text)))
-    (cases_Bool (ltb (position_or_len p text) (length text))))
+later_words : (text : List ℕ) → filter filled (later (past 32 text)) ≡ words_of (past 32 text)
+later_words [] = refl
+later_words (b ∷ bs) =
+    ⊎_elim
+    (λ (space : eqb b 32 ≡ true). rw space (rw space refl))
+    (λ (other : eqb b 32 ≡ false). rw other (later_words bs))
+    (cases_Bool (eqb b 32))
+
+kept : (part : List ℕ) (parts : List (List ℕ)) → 0 < length part → filter filled (part ∷ parts) ≡ part ∷ filter filled parts
+kept part parts some = cond-true (filled part) _ _ (ap not (ne_eqb (length part) 0 (λ none. omega arith)))
+
+-- a text has no word, or a first word and then those of what comes after it
+first_word : (text : List ℕ) → ((words_of text ≡ []) × (unspaced text ≡ [])) ⊎ (words_of text ≡ front 32 (unspaced text) ∷ words_of (past 32 (unspaced text)))
+first_word [] = inl (refl, refl)
+first_word (b ∷ bs) =
+    ⊎_elim
+    (λ (space : eqb b 32 ≡ true). rw space (first_word bs))
+    (λ (other : eqb b 32 ≡ false).
+    let here : unspaced (b ∷ bs) ≡ b ∷ bs = cond-false (eqb b 32) _ _ other in
+    let begins : front 32 (b ∷ bs) ≡ b ∷ front 32 bs = cond-false (eqb b 32) _ _ other in
+    inr (rw here
+    (ap (filter filled) (parts_are (b ∷ bs))
+    ∙ (kept (front 32 (b ∷ bs)) (later (past 32 (b ∷ bs))) (omega (arith, ap length begins)) ∙ ap (λ l. front 32 (b ∷ bs) ∷ l) (later_words (b ∷ bs))))))
+    (cases_Bool (eqb b 32))
+
+no_word : (k : ℕ) → word k [] ≡ []
+no_word zero = refl
+no_word (suc k) = no_word k
+
+pub word_is : (k : ℕ) (text : List ℕ) → get_or (words_of text) k [] ≡ word k text
+word_is zero text =
+    ⊎_elim
+    (λ (none : (words_of text ≡ []) × (unspaced text ≡ [])). rw (none.0, none.1) refl)
+    (λ (some : words_of text ≡ front 32 (unspaced text) ∷ words_of (past 32 (unspaced text))). rw some refl)
+    (first_word text)
+word_is (suc k) text =
+    ⊎_elim
+    (λ (none : (words_of text ≡ []) × (unspaced text ≡ [])). rw (none.0, none.1) (sym (no_word k)))
+    (λ (some : words_of text ≡ front 32 (unspaced text) ∷ words_of (past 32 (unspaced text))). rw some (word_is k (past 32 (unspaced text))))
+    (first_word text)

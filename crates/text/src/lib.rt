@@ -3,11 +3,12 @@
 
 ghost use Rattle.std.specs.Prelude.{◌≡◌, IfOk, string_bytes};
 ghost use Rattle.commands.specs.Commands.{line_of};
+ghost use Rattle.text.specs.Words.{unspaced, past, word as word_lem};
 ghost use Rattle.text.specs.Lines.{command_of_one, command_of_two, command_of, meaning, Means};
 
 use commands::Command;
 use std::alloc::{AllocError, Global};
-use words::{number, split_word, without_return};
+use words::{number, without_return, word};
 
 pub mod stream;
 mod words;
@@ -37,19 +38,18 @@ fn two_loads(kind: &[u8], a: u16, b: u16) -> Option<Command>
     }
 }
 
-// The command of a kind with the loads that the rest of the line has.
-fn parse_command(kind: &[u8], rest: &[u8]) -> Option<Command>
-    ensures { result ≡ command_of kind.now rest.now }
+// The command of the words of a line: its kind, and then one or two loads.
+fn parse_command(line: &[u8]) -> Option<Command>
+    ensures { result ≡ command_of (word_lem 0 line.now) (past 32 (unspaced line.now)) }
 {
-    let (first, rest) = split_word(rest);
-    let (second, rest) = split_word(rest);
-    let a = number(first)?;
+    let kind = word(line, 0);
+    let a = number(word(line, 1))?;
+    let second = word(line, 2);
     if second.is_empty() {
         return one_load(kind, a);
     }
     let b = number(second)?;
-    let (third, _) = split_word(rest);
-    if !third.is_empty() {
+    if !word(line, 3).is_empty() {
         return None;
     }
     two_loads(kind, a, b)
@@ -59,10 +59,10 @@ fn parse_command(kind: &[u8], rest: &[u8]) -> Option<Command>
 pub fn parse_line(line: &[u8]) -> Result<Option<Command>, BadLine>
     ensures { result ≡ meaning line.now }
 {
-    let (kind, rest) = split_word(without_return(line));
-    match kind {
+    let line = without_return(line);
+    match word(line, 0) {
         [] | [b'#', ..] => Ok(None),
-        _ => parse_command(kind, rest).map(Some).ok_or(BadLine),
+        _ => parse_command(line).map(Some).ok_or(BadLine),
     }
 }
 

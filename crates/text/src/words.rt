@@ -1,6 +1,6 @@
 // The words of a line, split by spaces.
 ghost use Rattle.std.specs.Prelude.{◌≡◌};
-ghost use Rattle.text.specs.Words.{unspaced, front, past, number as number_of_lem, line_without_return};
+ghost use Rattle.text.specs.Words.{word as word_lem, number as number_of_lem, line_without_return};
 
 use std::str;
 
@@ -11,29 +11,14 @@ pub(crate) fn without_return(line: &[u8]) -> &[u8]
     line.strip_suffix(b"\r").unwrap_or(line)
 }
 
-// The text from its first byte that is no space.
-fn skip_spaces(text: &[u8]) -> &[u8]
-    ensures { result.now ≡ unspaced text.now }
+// The word with this index, counted from 0; no bytes where there are too few words.
+pub(crate) fn word(line: &[u8], index: usize) -> &[u8]
+    ensures { result.now ≡ word_lem index line.now }
 {
-    let start = text.iter().position(|byte| *byte != b' ');
-    &text[start.unwrap_or(text.len())..]
-}
-
-// What comes before the first space, and the text from there on.
-fn split_at_space(text: &[u8]) -> (&[u8], &[u8])
-    ensures before { result.0.now ≡ front 32 text.now }
-    ensures rest { result.1.now ≡ past 32 text.now }
-{
-    let end = text.iter().position(|byte| *byte == b' ');
-    text.split_at(end.unwrap_or(text.len()))
-}
-
-// The first word of a text, and what comes after it.
-pub(crate) fn split_word(text: &[u8]) -> (&[u8], &[u8])
-    ensures word { result.0.now ≡ front 32 (unspaced text.now) }
-    ensures rest { result.1.now ≡ past 32 (unspaced text.now) }
-{
-    split_at_space(skip_spaces(text))
+    line.split(|byte| *byte == b' ')
+        .filter(|word| !word.is_empty())
+        .nth(index)
+        .unwrap_or(&[])
 }
 
 // The load that a word of decimal digits names.
