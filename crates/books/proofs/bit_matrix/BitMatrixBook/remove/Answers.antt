@@ -1,6 +1,5 @@
 use Rattle.std.proofs.Common.{◌≡◌, ◌-◌, ap, ◌∙◌}
 use Rattle.links.proofs.Reasons.{Removable, removing_none}
-use Rattle.links.specs.declared.tally.Tally.{Tally}
 use Rattle.books.specs.declared.bit_matrix.BitMatrix.{BitMatrix}
 use Rattle.books.specs.Matrix.{matrix_graph, MatrixMade, rewritten}
 use Rattle.books.proofs.Writes.{shrunk}
