@@ -1,11 +1,16 @@
 -- The cells of a bit matrix, and the links that they make.
-use Rattle.std.proofs.Common.{◌≡◌, ℕ, ◌+◌, ◌*◌, ◌/◌, ◌%◌, ◌<◌, ◌≤◌, false, ◌&&◌, eqb, ltb, List, get_or, sym, ap, ◌∙◌, ap₂, ⊎_elim, arith}
+use Rattle.std.proofs.Common.{◌≡◌, ℕ, ◌+◌, ◌*◌, ◌/◌, ◌%◌, ◌<◌, ◌≤◌, Bool, false, ◌&&◌, eqb, ltb, List, length, get_or, Option, sym, subst, ap, ◌∙◌, ap₂, ⊎_elim, arith}
+use Rattle.std.proofs.Math.Nat.{mul-le-mul_right}
 use Rattle.std.proofs.lemmas.Nat.{mul-add-lt, div-mul-add, mod-mul-add}
-use Rattle.std.proofs.lemmas.Bool.{cases_lt, cases_eq, eq-eqb, ne_eqb, eqb-true, cases_Bool, and_from, and_left, and_right, and_parts, lt-ltb, le-ltb, ltb-true}
-use Rattle.graph.specs.Graph.{Simple}
+use Rattle.std.proofs.lemmas.Bool.{cases_lt, cases_eq, eq-eqb, ne_eqb, eqb-true, cases_Bool, and_from, and_left, and_right, and_parts, lt-ltb, le-ltb, ltb-true, cond-true, cond-false}
+use Rattle.std.proofs.lemmas.List.{get_or-take, get_or-drop, length-drop, length-take-le}
+use Rattle.graph.specs.Graph.{Simple, count, degree, Next}
+use Rattle.graph.proofs.Counts.{count_ext, count_none, count_cut}
 use Rattle.bits.specs.Bit.{bit}
+use Rattle.bits.proofs.Bitwise.{bit_zero}
 use Rattle.books.specs.declared.bit_matrix.BitMatrix.{BitMatrix}
-use Rattle.books.specs.Matrix.{row_words, all_words, word_at, cell, is_place, matrix, matrix_graph, MatrixMade}
+use Rattle.books.specs.Matrix.{row_words, all_words, word_at, cell, is_place, matrix_row, matrix, matrix_graph, MatrixMade}
+use Rattle.books.proofs.Words.{member, member_past}
 
 pub linked_in : (n : ℕ) (words : List ℕ) (a b : ℕ) → a < n → b < n → (matrix n words).linked a b ≡ cell n words a b
 linked_in n words a b l m = rw (lt-ltb a n l, lt-ltb b n m)
@@ -32,13 +37,51 @@ made_simple m made =
       below = λ a b e. ltb-true a m.size (and_parts (ltb a m.size) _ e).0;
     }
 
--- bit j of word k of a row
-pub cell_at : (n : ℕ) (words : List ℕ) (a k j : ℕ) → j < 64 → cell n words a (64 * k + j) ≡ bit (get_or words (a * row_words n + k) 0) j
+-- ---- the place of a row
+
+pub row_end : (n a : ℕ) → a < n → a * row_words n + row_words n ≤ all_words n
+row_end n a l = let more : a + 1 ≤ n = omega arith in omega (arith, mul-le-mul_right (row_words n) more)
+
+pub length_row : (m : BitMatrix) → MatrixMade m → (a : ℕ) → a < m.size → length (matrix_row m.size m.words.now a) ≡ row_words m.size
+length_row m made a l =
+    ap length (cond-true _ _ _ (lt-ltb a m.size l))
+    ∙ length-take-le (row_words m.size) _ (omega (arith, length-drop (a * row_words m.size) m.words.now, row_end m.size a l, made.enough))
+
+-- row a is the set of the loads that are linked to a
+pub row_linked : (m : BitMatrix) → MatrixMade m → (a b : ℕ) → member (matrix_row m.size m.words.now a) b ≡ (matrix_graph m).linked a b
 unfolding cell
-cell_at n words a k j l =
-    let word : (64 * k + j) / 64 ≡ k = omega arith in
-    let place : (64 * k + j) % 64 ≡ j = omega arith in
-    ap₂ (λ (x y : ℕ). bit (get_or words (a * row_words n + x) 0) y) word place
+row_linked m made a b =
+    ⊎_elim
+    (λ l. ⊎_elim
+    (λ h. in_row l h ∙ ⊎_elim (λ k. sym (linked_in n words a b l k)) (λ k. made.padded a b l k h ∙ sym (linked_past n words a b k)) (cases_lt b n))
+    (λ h. member_past (matrix_row n words a) b (omega (arith, length_row m made a l)) ∙ sym (linked_past n words a b (omega arith)))
+    (cases_lt b (64 * row_words n)))
+    (λ l. ap (λ (row : List ℕ). member row b) (cond-false _ _ _ (le-ltb a n l)) ∙ bit_zero (b % 64) ∙ sym (linked_past_row n words a b l))
+    (cases_lt a n)
+  where
+    n : ℕ
+    n = m.size
+
+    words : List ℕ
+    words = m.words.now
+
+    in_row : a < n → b < 64 * row_words n → member (matrix_row n words a) b ≡ cell n words a b
+    in_row l h =
+        ap (λ (w : ℕ). bit w (b % 64))
+        (ap (λ (row : List ℕ). get_or row (b / 64) 0) (cond-true _ _ _ (lt-ltb a n l))
+        ∙ get_or-take (row_words n) _ (b / 64) 0 (omega arith) ∙ get_or-drop (a * row_words n) words (b / 64) 0)
+
+pub row_next : (m : BitMatrix) → MatrixMade m → (a : ℕ) (row : List ℕ) → row ≡ matrix_row m.size m.words.now a → (from : ℕ) (r : Option ℕ) → Next (member row) from r → Next ((matrix_graph m).linked a) from r
+row_next m made a row is from r =
+    subst (λ (test : ℕ → Bool). Next test from r) (λ i. λ b. (ap (λ (xs : List ℕ). member xs b) is ∙ row_linked m made a b) i)
+
+pub row_degree : (m : BitMatrix) → MatrixMade m → (a : ℕ) → count (64 * length (matrix_row m.size m.words.now a)) (member (matrix_row m.size m.words.now a)) ≡ degree (matrix_graph m) a
+row_degree m made a =
+    count_ext _ _ ((matrix_graph m).linked a) (λ b _. row_linked m made a b)
+    ∙ ⊎_elim
+    (λ l. count_cut _ m.size ((matrix_graph m).linked a) (omega (arith, length_row m made a l)) (λ b h _. linked_past m.size m.words.now a b h))
+    (λ l. count_none _ _ (λ b _. linked_past_row m.size m.words.now a b l) ∙ sym (count_none m.size _ (λ b _. linked_past_row m.size m.words.now a b l)))
+    (cases_lt a m.size)
 
 pub word_in : (n a b : ℕ) → a < n → b < 64 * row_words n → word_at n a b < all_words n
 word_in n a b l m = omega (arith, mul-add-lt a (row_words n) (b / 64) n l (omega arith))

@@ -6,6 +6,7 @@ use Rattle.graph.specs.Graph.{degree}
 use Rattle.graph.proofs.Counts.{count_none, link_count_none}
 use Rattle.bits.specs.Bit.{bit}
 use Rattle.bits.proofs.Bitwise.{bit_zero}
+use Rattle.links.specs.declared.tally.Tally.{Tally}
 use Rattle.books.specs.declared.bit_matrix.BitMatrix.{BitMatrix}
 use Rattle.books.specs.Matrix.{row_words, all_words, word_at, cell, matrix, matrix_graph, checking, Fresh}
 use Rattle.books.proofs.Cells.{linked_in, linked_past, linked_past_row, word_in}
@@ -27,19 +28,19 @@ linked_zero n words zeros a b =
     (λ l. linked_past_row n words a b l)
     (cases_lt a n)
 
-pub fresh_from_zeros : (m : BitMatrix) → m.size ≤ 256 → m.limit ≤ 32640 → m.count ≡ 0 → all_words m.size ≤ length m.words.now → Zeros (all_words m.size) m.words.now → Fresh m.size m.limit m
-fresh_from_zeros m small bound none enough zeros =
+pub fresh_from_zeros : (m : BitMatrix) (limit : ℕ) → m.size ≤ 256 → limit ≤ 32640 → m.tally ≡ record { limit = limit; count = 0 } → all_words m.size ≤ length m.words.now → Zeros (all_words m.size) m.words.now → Fresh m.size limit m
+fresh_from_zeros m limit small bound new enough zeros =
     record {
       graph_is = λ i. record { size = m.size; linked = λ a b. off a b i };
       ledger_is = λ i. record {
-        limit = m.limit;
+        limit = (new i).limit;
         barred = λ _ _. false;
         spare = λ a. cond (ltb a m.size) (all_spare a i) 0;
         room = all_room i;
       };
       still_made = record {
         small = small;
-        limit_bound = bound;
+        limit_bound = omega (arith, limit_is);
         enough = enough;
         loopless = λ a l. zero a a l (omega arith);
         symmetric = λ a b l k. zero a b l (omega arith) ∙ sym (zero b a k (omega arith));
@@ -49,6 +50,12 @@ fresh_from_zeros m small bound none enough zeros =
       };
     }
   where
+    limit_is : m.tally.limit ≡ limit
+    limit_is = ap (λ (t : Tally). t.limit) new
+
+    none : m.tally.count ≡ 0
+    none = ap (λ (t : Tally). t.count) new
+
     zero : (a b : ℕ) → a < m.size → b < 64 * row_words m.size → cell m.size m.words.now a b ≡ false
     zero = cell_zero m.size m.words.now zeros
 
@@ -58,5 +65,5 @@ fresh_from_zeros m small bound none enough zeros =
     all_spare : (a : ℕ) → m.size - 1 - degree (matrix_graph m) a ≡ m.size - 1
     all_spare a = omega (arith, count_none m.size ((matrix_graph m).linked a) (λ b _. off a b))
 
-    all_room : m.limit - m.count ≡ m.limit
-    all_room = omega (arith, none)
+    all_room : m.tally.limit - m.tally.count ≡ limit
+    all_room = omega (arith, none, limit_is)

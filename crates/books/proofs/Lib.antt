@@ -1,4 +1,4 @@
+pub mod Words
 pub mod Cells
-pub mod Rows
 pub mod Fresh
 pub mod Writes

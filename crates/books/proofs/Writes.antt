@@ -1,5 +1,5 @@
 -- A bit matrix after the two bits of a link were written.
-use Rattle.std.proofs.Common.{◌≡◌, ℕ, ◌+◌, ◌-◌, ◌*◌, ◌%◌, ◌<◌, ◌≤◌, Bool, true, false, cond, not, ◌&&◌, ◌||◌, eqb, ltb, List, get_or, sym, refl, ap, ◌∙◌, ap₂, ⊎_elim, arith}
+use Rattle.std.proofs.Common.{◌≡◌, ℕ, ◌+◌, ◌-◌, ◌*◌, ◌%◌, ◌<◌, ◌≤◌, Bool, true, false, cond, not, ◌&&◌, ◌||◌, eqb, ltb, List, get_or, sym, refl, subst, ap, ◌∙◌, ap₂, ⊎_elim, arith}
 use mathlib.Core.Bool.{and_comm}
 use Rattle.std.proofs.lemmas.Bool.{cases_lt, ne_eqb, or_from, lt-ltb, le-ltb}
 use Rattle.graph.specs.Graph.{Graph, Simple, count, is_pair, added, removed, degree, link_count}
@@ -10,12 +10,8 @@ use Rattle.links.specs.Books.{Stands, lowered, raised}
 use Rattle.links.proofs.Reasons.{TwoLoads, Addable, Removable}
 use Rattle.bits.specs.Bit.{bit}
 use Rattle.books.specs.declared.bit_matrix.BitMatrix.{BitMatrix}
-use Rattle.books.specs.Matrix.{row_words, word_at, cell, is_link_place, matrix, matrix_graph, MatrixMade, matrix_ledger, Written}
+use Rattle.books.specs.Matrix.{row_words, word_at, cell, is_link_place, matrix, matrix_graph, MatrixMade, matrix_ledger, rewritten, Written}
 use Rattle.books.proofs.Cells.{linked_in, linked_past, linked_past_row, same_place, made_simple}
-
--- the book with so many links and these words
-abbrev pub rewritten : BitMatrix → ℕ → List ℕ → BitMatrix
-rewritten s next after = record { size = s.size; limit = s.limit; count = next; words = record { ref_ptr = s.words.ref_ptr; ghost_name = s.words.ghost_name; now = after } }
 
 module _ (on : Bool) (s : BitMatrix) (after : List ℕ) (a b : ℕ) (made : MatrixMade s) (two : TwoLoads s.size a b) (w : Written on (is_link_place s.size a b) s.words.now after) where
   cells : (x y : ℕ) → y < 64 * row_words s.size → cell s.size after x y ≡ cond (is_pair a b x y) on (cell s.size s.words.now x y)
@@ -36,7 +32,7 @@ module _ (on : Bool) (s : BitMatrix) (after : List ℕ) (a b : ℕ) (made : Matr
       (λ h. linked_past_row s.size after x y h ∙ sym (ap₂ (λ (p t : Bool). cond p on t) (pair_swap a b x y ∙ pair_past s.size a b y x two.a_below two.b_below h) (linked_past_row s.size s.words.now x y h)))
       (cases_lt x s.size)
 
-  made_after : (next : ℕ) → next ≡ link_count (matrix s.size after) → next ≤ s.limit → MatrixMade (rewritten s next after)
+  made_after : (next : ℕ) → next ≡ link_count (matrix s.size after) → next ≤ s.tally.limit → MatrixMade (rewritten s (record { limit = s.tally.limit; count = next }) after)
   made_after next counted within =
       record {
         small = made.small;
@@ -52,14 +48,14 @@ module _ (on : Bool) (s : BitMatrix) (after : List ℕ) (a b : ℕ) (made : Matr
   -- it stands for the graph and the ledger whose parts are these
   stands_after : (linked : ℕ → ℕ → Bool) (next : ℕ) (spare : ℕ → ℕ) (room : ℕ)
       → ((x y : ℕ) → cond (is_pair a b x y) on ((matrix_graph s).linked x y) ≡ linked x y)
-      → next ≡ link_count (record { size = s.size; linked = linked }) → next ≤ s.limit
-      → ((x : ℕ) → cond (ltb x s.size) (s.size - 1 - count s.size (linked x)) 0 ≡ spare x) → s.limit - next ≡ room
-      → Stands matrix_graph MatrixMade matrix_ledger (rewritten s next after) (record { size = s.size; linked = linked }) (record { limit = s.limit; barred = λ _ _. false; spare = spare; room = room })
+      → next ≡ link_count (record { size = s.size; linked = linked }) → next ≤ s.tally.limit
+      → ((x : ℕ) → cond (ltb x s.size) (s.size - 1 - count s.size (linked x)) 0 ≡ spare x) → s.tally.limit - next ≡ room
+      → Stands matrix_graph MatrixMade matrix_ledger (rewritten s (record { limit = s.tally.limit; count = next }) after) (record { size = s.size; linked = linked }) (record { limit = s.tally.limit; barred = λ _ _. false; spare = spare; room = room })
   stands_after linked next spare room is-linked counted within is-spare is-room =
       record {
         graph_is = same;
         ledger_is = λ i. record {
-          limit = s.limit;
+          limit = s.tally.limit;
           barred = λ _ _. false;
           spare = λ x. (ap (λ (g : Graph). cond (ltb x s.size) (s.size - 1 - degree g x) 0) same ∙ is-spare x) i;
           room = is-room i;
@@ -70,15 +66,16 @@ module _ (on : Bool) (s : BitMatrix) (after : List ℕ) (a b : ℕ) (made : Matr
       same : matrix s.size after ≡ record { size = s.size; linked = linked }
       same = λ i. record { size = s.size; linked = λ x y. (linked_after x y ∙ is-linked x y) i }
 
-pub grown : (s : BitMatrix) (after : List ℕ) (a b next : ℕ) → MatrixMade s → Addable (matrix_graph s) (matrix_ledger s) a b → next ≡ s.count + 1 → Written true (is_link_place s.size a b) s.words.now after
-    → Stands matrix_graph MatrixMade matrix_ledger (rewritten s next after) (added (matrix_graph s) a b) (lowered (matrix_ledger s) a b)
-grown s after a b next made can more w =
-    stands_after true s after a b made can.two w (added (matrix_graph s) a b).linked next _ _ (λ x y. or_cond (is_pair a b x y) _)
+pub grown : (s t : BitMatrix) (a b : ℕ) → MatrixMade s → Addable (matrix_graph s) (matrix_ledger s) a b → t ≡ rewritten s (record { limit = s.tally.limit; count = s.tally.count + 1 }) t.words.now → Written true (is_link_place s.size a b) s.words.now t.words.now
+    → Stands matrix_graph MatrixMade matrix_ledger t (added (matrix_graph s) a b) (lowered (matrix_ledger s) a b)
+grown s t a b made can is w =
+    subst (λ (m : BitMatrix). Stands matrix_graph MatrixMade matrix_ledger m (added (matrix_graph s) a b) (lowered (matrix_ledger s) a b)) (sym is)
+    (stands_after true s t.words.now a b made can.two w (added (matrix_graph s) a b).linked (s.tally.count + 1) _ _ (λ x y. or_cond (is_pair a b x y) _)
     (omega (arith, made.counted, link_count_added (matrix_graph s) a b simple can.two.apart can.two.a_below can.two.b_below can.off))
     (omega (arith, can.room))
     (λ x. less_spare s.size (degree (matrix_graph s) x) (degree (added (matrix_graph s) a b) x) (ltb x s.size) (eqb a x || eqb b x)
     (degree_added (matrix_graph s) a b simple can.two.apart can.two.a_below can.two.b_below can.off x))
-    (omega arith)
+    (omega arith))
   where
     simple : Simple (matrix_graph s)
     simple = made_simple s made
@@ -95,14 +92,15 @@ grown s after a b next made can more w =
     less_spare n d e false true h = omega arith
     less_spare n d e false false h = omega arith
 
-pub shrunk : (s : BitMatrix) (after : List ℕ) (a b next : ℕ) → MatrixMade s → Removable (matrix_graph s) a b → next ≡ s.count - 1 → Written false (is_link_place s.size a b) s.words.now after
-    → Stands matrix_graph MatrixMade matrix_ledger (rewritten s next after) (removed (matrix_graph s) a b) (raised (matrix_ledger s) a b)
-shrunk s after a b next made can fewer w =
-    stands_after false s after a b made can.two w (removed (matrix_graph s) a b).linked next _ _ (λ x y. and_cond (is_pair a b x y) _)
+pub shrunk : (s t : BitMatrix) (a b : ℕ) → MatrixMade s → Removable (matrix_graph s) a b → t ≡ rewritten s (record { limit = s.tally.limit; count = s.tally.count - 1 }) t.words.now → Written false (is_link_place s.size a b) s.words.now t.words.now
+    → Stands matrix_graph MatrixMade matrix_ledger t (removed (matrix_graph s) a b) (raised (matrix_ledger s) a b)
+shrunk s t a b made can is w =
+    subst (λ (m : BitMatrix). Stands matrix_graph MatrixMade matrix_ledger m (removed (matrix_graph s) a b) (raised (matrix_ledger s) a b)) (sym is)
+    (stands_after false s t.words.now a b made can.two w (removed (matrix_graph s) a b).linked (s.tally.count - 1) _ _ (λ x y. and_cond (is_pair a b x y) _)
     (omega (arith, made.counted, one_fewer))
     (omega (arith, made.within))
     spares
-    (omega (arith, made.counted, made.within, one_fewer))
+    (omega (arith, made.counted, made.within, one_fewer)))
   where
     simple : Simple (matrix_graph s)
     simple = made_simple s made

@@ -1,9 +1,10 @@
 -- A graph in a bit matrix.
-use Rattle.std.specs.Prelude.{◌≡◌, ℕ, ◌+◌, ◌-◌, ◌*◌, ◌/◌, ◌%◌, ◌<◌, ◌≤◌, Bool, false, cond, ◌&&◌, ◌||◌, List, length, Some, None, Option, ◌==◌, nat_lt, slice_index}
+use Rattle.std.specs.Prelude.{◌≡◌, ℕ, ◌+◌, ◌-◌, ◌*◌, ◌/◌, ◌%◌, ◌<◌, ◌≤◌, Bool, false, cond, ◌&&◌, ◌||◌, List, [], length, take, drop, Some, None, Option, ◌==◌, nat_lt, slice_index}
 use Rattle.graph.specs.Graph.{Graph, degree, link_count, edgeless}
-use Rattle.links.specs.Books.{Ledger, Stands, by_book}
+use Rattle.links.specs.Books.{Ledger, Stands, by_book, unless_size, unless_limit}
 use Rattle.links.specs.Memory.{Cleared}
 use Rattle.links.specs.Refusals.{Reason}
+use Rattle.links.specs.declared.tally.Tally.{Tally}
 use Rattle.bits.specs.Bit.{bit}
 use Rattle.books.specs.declared.bit_matrix.BitMatrix.{BitMatrix}
 
@@ -20,6 +21,10 @@ all_words n = n * row_words n
 -- the word that has load b of row a, in its bit b mod 64
 abbrev pub word_at : ℕ → ℕ → ℕ → ℕ
 word_at n a b = a * row_words n + b / 64
+
+-- the words of row a; none from n on
+abbrev pub matrix_row : ℕ → List ℕ → ℕ → List ℕ
+matrix_row n words a = cond (nat_lt a n) (take (row_words n) (drop (a * row_words n) words)) []
 
 -- row a has load b
 unfoldable pub cell : ℕ → List ℕ → ℕ → ℕ → Bool
@@ -52,7 +57,7 @@ ledger n limit count words =
     }
 
 abbrev pub matrix_ledger : BitMatrix → Ledger
-matrix_ledger m = ledger m.size m.limit m.count m.words.now
+matrix_ledger m = ledger m.size m.tally.limit m.tally.count m.words.now
 
 pub record Made (n limit count : ℕ) (words : List ℕ) : Type 0 where
   pub small : n ≤ 256
@@ -66,16 +71,14 @@ pub record Made (n limit count : ℕ) (words : List ℕ) : Type 0 where
 
 -- the book came from its making
 abbrev pub MatrixMade : BitMatrix → Type 0
-MatrixMade m = Made m.size m.limit m.count m.words.now
+MatrixMade m = Made m.size m.tally.limit m.tally.count m.words.now
 
 -- ---- the making
 
 -- the first reason to refuse a matrix of n loads in so many words
 abbrev pub checking : ℕ → ℕ → ℕ → Option Reason
 checking n limit memory =
-    cond (n == 0 || nat_lt 256 n) (by_book 1)
-    (cond (limit == 0 || nat_lt 32640 limit) (by_book 2)
-    (cond (nat_lt memory (all_words n)) (by_book 3) None))
+    unless_size n (unless_limit limit (cond (nat_lt memory (all_words n)) (by_book 3) None))
 
 abbrev pub fresh : ℕ → ℕ → Ledger
 fresh n limit =
@@ -91,6 +94,10 @@ Making None n limit before m = Fresh n limit m × Cleared (all_words n) before m
 Making (Some reason) n limit before m = Fresh 0 0 m × (m.words.now ≡ before)
 
 -- ---- one link written
+
+-- the book with this tally and these words
+abbrev pub rewritten : BitMatrix → Tally → List ℕ → BitMatrix
+rewritten m tally words = record { size = m.size; tally = tally; words = record { ref_ptr = m.words.ref_ptr; ghost_name = m.words.ghost_name; now = words } }
 
 -- every bit of the memory: those that pass the test are `on`, and the others as they were
 pub record Written (on : Bool) (test : ℕ → ℕ → Bool) (before after : List ℕ) : Type 0 where

@@ -1,49 +1,29 @@
 // A link book that holds a bit for each ordered pair of loads.
-ghost use Rattle.std.specs.Prelude.{◌≡◌, ℕ, ◌+◌, ◌*◌, ◌%◌, ◌<◌, ◌≤◌, true, false, length, is_ok, if◌then◌else◌, MatchOption, nat_eq, slice_index};
+ghost use Rattle.std.specs.Prelude.{◌≡◌, ℕ, ◌*◌, ◌%◌, ◌<◌, ◌≤◌, true, false, length, is_ok, if◌then◌else◌, nat_eq, slice_index};
 ghost use Rattle.bits.specs.Bit.{bit};
 ghost use Rattle.links.specs.Books.{Adds, Removes};
 ghost use Rattle.links.specs.Refusals.{Answers};
-ghost use Rattle.books.specs.Matrix.{row_words, all_words, word_at, is_place, is_link_place, matrix_graph, matrix_ledger, MatrixMade, checking, Making, Written, Beyond};
+ghost use Rattle.books.specs.Matrix.{row_words, all_words, is_place, is_link_place, matrix_row, matrix_graph, matrix_ledger, MatrixMade, rewritten, checking, Making, Written, Beyond};
 
 use bits::{bit_of, count_bits, next_bit, with_bit, without_bit};
-use links::{Allowance, Book, Layer, Links, Refusal, Refused, check_add, check_remove};
+use links::{
+    Allowance, Book, Layer, Links, Refusal, Refused, Tally, check_add, check_limit, check_remove,
+    check_size,
+};
 
 // With w = size / 64 rounded up, load b is bit b mod 64 of word a × w + b / 64, for each link in both directions.
 #[derive(Drop)]
 pub struct BitMatrix<'a> {
-    size: usize,
-    limit: usize,
-    // how many links there are
-    count: usize,
+    size: u16,
+    tally: Tally,
     words: &'a mut [u64],
 }
 
 // How many words a row has.
 fn row_words(size: usize) -> usize
-    requires { size ≤ 256 }
-    ensures value { result ≡ row_words size }
-    ensures bound { result ≤ 4 }
+    ensures { result ≡ row_words size }
 {
-    (size + 63) / 64
-}
-
-// The index of the first word of row a.
-fn row_start(size: usize, a: usize) -> usize
-    requires { (size ≤ 256) × (a ≤ size) }
-    ensures value { result ≡ a * row_words size }
-    ensures bound { result ≤ 1024 }
-{
-    a * row_words(size)
-}
-
-// The index of word k of row a, where the matrix has one.
-fn word_index(size: usize, a: usize, k: usize) -> Option<usize>
-    ensures { MatchOption result (size ≤ 256 → a < size → k < row_words size → ⊥) (λ i. (i ≡ a * row_words size + k) × (i < all_words size)) }
-{
-    if size > 256 || a >= size || k >= row_words(size) {
-        return None;
-    }
-    Some(row_start(size, a) + k)
+    size.div_ceil(64)
 }
 
 impl<'a> BitMatrix<'a> {
@@ -51,13 +31,9 @@ impl<'a> BitMatrix<'a> {
     pub fn check(size: usize, limit: usize, words: &[u64]) -> Result<(), Refused>
         ensures { Answers (checking size limit (length words.now)) result (λ _. Unit {0}) }
     {
-        if size == 0 || size > 256 {
-            return Err(Refusal::SizeOutOfRange.by(Layer::Book));
-        }
-        if limit == 0 || limit > 32640 {
-            return Err(Refusal::LimitOutOfRange.by(Layer::Book));
-        }
-        if words.len() < row_start(size, size) {
+        check_size(size)?;
+        check_limit(limit)?;
+        if words.len() < size * row_words(size) {
             return Err(Refusal::WrongLength.by(Layer::Book));
         }
         Ok(())
@@ -71,37 +47,19 @@ impl<'a> BitMatrix<'a> {
     {
         match BitMatrix::check(size, limit, words) {
             Ok(()) => {
-                let used = row_start(size, size);
+                let used = size * row_words(size);
                 words[0..used].fill(0);
                 BitMatrix {
-                    size,
-                    limit,
-                    count: 0,
+                    size: size as u16,
+                    tally: Tally::new(limit),
                     words,
                 }
             }
             Err(_) => BitMatrix {
                 size: 0,
-                limit: 0,
-                count: 0,
+                tally: Tally::new(0),
                 words,
             },
-        }
-    }
-}
-
-impl BitMatrix<'_> {
-    // Word k of row a, or 0 where the row or the memory does not reach so far.
-    fn word(&self, a: usize, k: usize) -> u64
-        ensures { self.now.size ≤ 256 → a < self.now.size → k < row_words self.now.size → result ≡ slice_index self.now.words.now (a * row_words self.now.size + k) }
-    {
-        let Some(i) = word_index(self.size, a, k) else {
-            return 0;
-        };
-        if i < self.words.len() {
-            self.words[i]
-        } else {
-            0
         }
     }
 }
@@ -117,25 +75,44 @@ fn put_bit(word: u64, b: usize, on: bool) -> u64
     }
 }
 
-// Puts the bit of load b in row a of a matrix of `size` rows to `on`. Nothing is written past the matrix.
-fn put(words: &mut [u64], size: usize, a: usize, b: usize, on: bool)
-    ensures written { size ≤ 256 → a < size → b < size → all_words size ≤ length words.old → Written on (is_place size a b) words.old words.new }
-    ensures beyond { Beyond size words.old words.new }
-{
-    if let Some(i) = word_index(size, a, b / 64) {
-        if i < words.len() {
-            words[i] = put_bit(words[i], b, on);
+impl BitMatrix<'_> {
+    // The words of row a.
+    fn row(&self, a: usize) -> &[u64]
+        ensures value { all_words self.now.size ≤ length self.now.words.now → result.now ≡ matrix_row self.now.size self.now.words.now a }
+        ensures bound { length result.now ≤ 1024 }
+    {
+        let size = usize::from(self.size);
+        if a >= size {
+            return &[];
+        }
+        let width = row_words(size);
+        self.words.get(a * width..(a + 1) * width).unwrap_or(&[])
+    }
+
+    // Puts the bit of load b in row a to `on`. Nothing is written past the matrix.
+    fn put(&mut self, a: usize, b: usize, on: bool)
+        ensures rest { self.new ≡ rewritten self.old self.old.tally self.new.words.now }
+        ensures written { a < self.old.size → b < self.old.size → all_words self.old.size ≤ length self.old.words.now → Written on (is_place self.old.size a b) self.old.words.now self.new.words.now }
+        ensures beyond { Beyond self.old.size self.old.words.now self.new.words.now }
+    {
+        let size = usize::from(self.size);
+        if a < size && b < size {
+            let i = a * row_words(size) + b / 64;
+            if i < self.words.len() {
+                self.words[i] = put_bit(self.words[i], b, on);
+            }
         }
     }
-}
 
-// Puts the two bits of the link of a and b to `on`.
-fn put_link(words: &mut [u64], size: usize, a: usize, b: usize, on: bool)
-    ensures written { size ≤ 256 → a < size → b < size → all_words size ≤ length words.old → Written on (is_link_place size a b) words.old words.new }
-    ensures beyond { Beyond size words.old words.new }
-{
-    put(words, size, a, b, on);
-    put(words, size, b, a, on);
+    // Puts the two bits of the link of a and b to `on`.
+    fn put_link(&mut self, a: usize, b: usize, on: bool)
+        ensures rest { self.new ≡ rewritten self.old self.old.tally self.new.words.now }
+        ensures written { a < self.old.size → b < self.old.size → all_words self.old.size ≤ length self.old.words.now → Written on (is_link_place self.old.size a b) self.old.words.now self.new.words.now }
+        ensures beyond { Beyond self.old.size self.old.words.now self.new.words.now }
+    {
+        self.put(a, b, on);
+        self.put(b, a, on);
+    }
 }
 
 impl Links for BitMatrix<'_> {
@@ -144,33 +121,21 @@ impl Links for BitMatrix<'_> {
     ghost made = { MatrixMade };
 
     fn size(&self) -> usize {
-        self.size
+        usize::from(self.size)
     }
 
     fn linked(&self, a: usize, b: usize) -> bool {
-        if a >= self.size || b >= self.size {
-            return false;
-        }
-        bit_of(self.word(a, b / 64), b)
+        self.row(a).get(b / 64).is_some_and(|word| bit_of(*word, b))
     }
 
     fn degree(&self, a: usize) -> usize {
-        if self.size > 256 || a >= self.size {
-            return 0;
-        }
-        let mut sum = 0;
-        for k in 0..row_words(self.size) {
-            sum += count_bits(self.word(a, k));
-        }
-        sum
+        self.row(a).iter().map(|word| count_bits(*word)).sum()
     }
 
     fn next_linked(&self, a: usize, from: usize) -> Option<usize> {
-        if self.size > 256 || a >= self.size {
-            return None;
-        }
-        for k in from / 64..row_words(self.size) {
-            if let Some(j) = next_bit(self.word(a, k), from.saturating_sub(64 * k)) {
+        let row = self.row(a);
+        for k in from / 64..row.len() {
+            if let Some(j) = next_bit(row[k], from.saturating_sub(64 * k)) {
                 return Some(64 * k + j);
             }
         }
@@ -178,7 +143,7 @@ impl Links for BitMatrix<'_> {
     }
 
     fn link_count(&self) -> usize {
-        self.count
+        self.tally.count
     }
 }
 
@@ -186,7 +151,7 @@ impl Book for BitMatrix<'_> {
     ghost ledger = { matrix_ledger };
 
     fn limit(&self) -> usize {
-        self.limit
+        self.tally.limit
     }
 
     fn is_barred(&self, _a: usize, _b: usize) -> bool {
@@ -194,14 +159,15 @@ impl Book for BitMatrix<'_> {
     }
 
     fn spare(&self, a: usize) -> usize {
-        if a >= self.size {
+        let size = usize::from(self.size);
+        if a >= size {
             return 0;
         }
-        (self.size - 1).saturating_sub(self.degree(a))
+        (size - 1).saturating_sub(self.degree(a))
     }
 
     fn room(&self) -> usize {
-        self.limit.saturating_sub(self.count)
+        self.tally.room()
     }
 
     fn add(&mut self, a: usize, b: usize) -> Result<(), Refused>
@@ -217,9 +183,8 @@ impl Book for BitMatrix<'_> {
             room: self.room(),
         };
         check_add(self, a, b, allowance)?;
-        let size = self.size;
-        put_link(self.words, size, a, b, true);
-        self.count = self.count.saturating_add(1);
+        self.put_link(a, b, true);
+        self.tally.add_one();
         Ok(())
     }
 
@@ -230,9 +195,8 @@ impl Book for BitMatrix<'_> {
         ensures beyond { Beyond self.old.size self.old.words.now self.new.words.now }
     {
         check_remove(self, a, b)?;
-        let size = self.size;
-        put_link(self.words, size, a, b, false);
-        self.count = self.count.saturating_sub(1);
+        self.put_link(a, b, false);
+        self.tally.remove_one();
         Ok(())
     }
 }

@@ -1,5 +1,5 @@
 -- What a book allows besides its links, and how it answers a change.
-use Rattle.std.specs.Prelude.{◌≡◌, ℕ, ◌+◌, ◌-◌, ◌<◌, ◌≤◌, Bool, true, cond, ◌||◌, [], Some, None, Option, Result, ◌==◌, nat_le}
+use Rattle.std.specs.Prelude.{◌≡◌, ℕ, ◌+◌, ◌-◌, ◌<◌, ◌≤◌, Bool, true, cond, ◌||◌, [], Some, None, Option, Result, ◌==◌, nat_le, nat_lt}
 use Rattle.graph.specs.Graph.{Graph, link_count, added, removed}
 use Rattle.links.specs.declared.refusal.Layer.{Layer}
 use Rattle.links.specs.declared.refusal.Layer.TheVariants.{Book}
@@ -36,6 +36,14 @@ by_book number = Some (record { number = number; values = []; layer = Book })
 
 abbrev pub by : Layer → ℕ → Option Reason
 by layer number = Some (record { number = number; values = []; layer = layer })
+
+-- 1: not 1 to 256 loads
+abbrev pub unless_size : ℕ → Option Reason → Option Reason
+unless_size size otherwise = cond (size == 0 || nat_lt 256 size) (by_book 1) otherwise
+
+-- 2: not a limit of 1 to 32640 links
+abbrev pub unless_limit : ℕ → Option Reason → Option Reason
+unless_limit limit otherwise = cond (limit == 0 || nat_lt 32640 limit) (by_book 2) otherwise
 
 -- 4: not two loads; 5: the same load twice
 abbrev pub unless_two_of : Layer → ℕ → ℕ → ℕ → Option Reason → Option Reason

@@ -3,13 +3,15 @@
 
 ghost use Rattle.std.specs.Prelude.{◌≡◌, ℕ, None};
 ghost use Rattle.graph.specs.Graph.{Graph, Simple, degree, link_count, Next};
-ghost use Rattle.links.specs.Books.{Ledger, Bounded, Allows, Adds, Removes, unless_two_of, adding, removing};
+ghost use Rattle.links.specs.Books.{Ledger, Bounded, Allows, Adds, Removes, unless_size, unless_limit, unless_two_of, adding, removing};
 ghost use Rattle.links.specs.Refusals.{Answers};
 
 mod refusal;
+mod tally;
 pub mod walk;
 
 pub use refusal::{Layer, Refusal, Refused};
+pub use tally::Tally;
 
 // What a book allows for one link: whether it is barred, the spares of both its loads, and the room.
 #[derive(Clone, Copy)]
@@ -77,6 +79,28 @@ pub trait Book: Links {
     // Removes the link of a and b.
     fn remove(&mut self, a: usize, b: usize) -> Result<(), Refused>
         ensures { Removes Self.Links.graph Self.Links.made ledger self.old a b result self.new };
+}
+
+// Whether there can be so many loads.
+pub fn check_size(size: usize) -> Result<(), Refused>
+    ensures { Answers (unless_size size None) result (λ _. Unit {0}) }
+{
+    if (1..=256).contains(&size) {
+        Ok(())
+    } else {
+        Err(Refusal::SizeOutOfRange.by(Layer::Book))
+    }
+}
+
+// Whether a book can have this limit.
+pub fn check_limit(limit: usize) -> Result<(), Refused>
+    ensures { Answers (unless_limit limit None) result (λ _. Unit {0}) }
+{
+    if (1..=32640).contains(&limit) {
+        Ok(())
+    } else {
+        Err(Refusal::LimitOutOfRange.by(Layer::Book))
+    }
 }
 
 // Whether a and b are two of `size` loads.

@@ -1,11 +1,11 @@
 -- What holds of a book in rows: fresh, and at all times.
-use Rattle.std.proofs.Common.{◌≡◌, ℕ, ◌+◌, ◌-◌, ◌*◌, ◌<◌, ◌≤◌, Bool, true, false, cond, eqb, ltb, List, [], ◌++◌, length, get_or, take, drop, replicate, Some, None, Option, sym, refl, ap, ◌∙◌, subst, ap₂, ⊎_elim, arith, MatchOption}
+use Rattle.std.proofs.Common.{◌≡◌, ℕ, ◌+◌, ◌-◌, ◌*◌, ◌<◌, ◌≤◌, Bool, true, false, cond, ◌&&◌, eqb, ltb, List, [], ◌++◌, length, get_or, take, drop, replicate, Some, None, Option, sym, refl, ap, ◌∙◌, subst, ap₂, ⊎_elim, arith, MatchOption}
 use Rattle.std.proofs.lemmas.Nat.{mul-add-lt}
 use Rattle.std.proofs.lemmas.List.{get_or_append_left, get_or-append_right, get_or-replicate, get_or-drop, length-replicate, length-append, length-drop}
 use Rattle.std.proofs.lemmas.Bool.{cases_lt, lt-ltb, le-ltb, cond-true, cond-false, and_right, both_ways}
 use Rattle.std.proofs.lemmas.Bool.Decides.{nat_tests}
 use Rattle.rise.specs.Rise.{Rises, FirstUnordered}
-use Rattle.graph.specs.Graph.{Simple, degree, First}
+use Rattle.graph.specs.Graph.{Simple, degree, First, Next}
 use Rattle.graph.proofs.Counts.{link_count_none, count_ext}
 use Rattle.links.specs.Books.{Bounded}
 use Rattle.links.specs.Refusals.{Reason}
@@ -13,6 +13,7 @@ use Rattle.row.specs.Row.{entries, has, place, RowMade}
 use Rattle.links.specs.Memory.{Cleared}
 use Rattle.row.specs.Memory.{loads_of_row, row_of}
 use Rattle.rows.specs.Rows.{graph_of, ledger_of, RowsMade, checking, Fresh, Making}
+use Rattle.links.specs.declared.tally.Tally.{Tally}
 use Rattle.rows.specs.declared.SortedRows.{SortedRows}
 use Rattle.row.proofs.Memory.{row_end, get_row_of, length_row_of}
 use Rattle.row.proofs.Rising.{Above, above_from_rises, rises_from_above, count_has, place_has, place_none, place_first}
@@ -58,26 +59,29 @@ module _ (n d : ℕ) (memory : List ℕ) (zeros : (k : ℕ) → k < n * (d + 1) 
       (λ l. rw (le-ltb a n l))
       (cases_lt a n)
 
-  pub empty_made : (limit : ℕ) → n ≤ 256 → limit ≤ 32640 → n * (d + 1) ≤ length memory → RowsMade n d limit 0 memory
-  empty_made limit small bound long =
+  pub empty_made : (limit : ℕ) (t : Tally) → t ≡ record { limit = limit; count = 0 } → n ≤ 256 → limit ≤ 32640 → n * (d + 1) ≤ length memory → RowsMade n d t.limit t.count memory
+  empty_made limit t new small bound long =
       record {
         small = small;
-        limit_bound = bound;
+        limit_bound = omega (arith, ap (λ (x : Tally). x.limit) new);
         long = long;
         rows = λ a l. empty_row n d a (row_of d memory a) (zero_row a l);
         symmetric = λ a b. no_links a b ∙ sym (no_links b a);
-        counted = sym (link_count_none (graph_of n d memory) no_links);
-        within = omega arith;
+        counted = none ∙ sym (link_count_none (graph_of n d memory) no_links);
+        within = omega (arith, none);
       }
+    where
+      none : t.count ≡ 0
+      none = ap (λ (x : Tally). x.count) new
 
-  pub empty_fresh : (limit : ℕ) (s : SortedRows) → s.size ≡ n → s.row_limit ≡ d → s.limit ≡ limit → s.count ≡ 0 → s.rows.now ≡ memory → Fresh n d limit s
-  empty_fresh limit s en ed el ec em =
+  pub empty_fresh : (limit : ℕ) (s : SortedRows) → s.size ≡ n → s.row_limit ≡ d → s.tally ≡ record { limit = limit; count = 0 } → s.rows.now ≡ memory → Fresh n d limit s
+  empty_fresh limit s en ed et em =
       record {
         row_limit = ed;
         graph = ap₂ (λ (x y : ℕ). graph_of x y s.rows.now) en ed ∙ ap (graph_of n d) em ∙ (λ i. record { size = n; linked = λ a b. no_links a b i });
         ledger =
-            ap₂ (λ (x y : ℕ). ledger_of x y s.limit s.count s.rows.now) en ed
-            ∙ ap₂ (λ (x y : ℕ). ledger_of n d x y s.rows.now) el ec
+            ap₂ (λ (x y : ℕ). ledger_of x y s.tally.limit s.tally.count s.rows.now) en ed
+            ∙ ap (λ (t : Tally). ledger_of n d t.limit t.count s.rows.now) et
             ∙ ap (ledger_of n d limit 0) em
             ∙ (λ i. record { limit = limit; barred = λ _ _. false; spare = λ a. all_spare a i; room = all_room limit i });
       }
@@ -189,14 +193,14 @@ module _ (n d limit total : ℕ) (memory : List ℕ) (made : RowsMade n d limit 
     linked_row : (y : ℕ) → has row y ≡ (graph_of n d memory).linked a y
     linked_row y = ap (λ (xs : List ℕ). has xs y) is ∙ sym (linked_is a y)
 
-    pub linked_found : k < length row → eqb (get_or row k 0) b ≡ (graph_of n d memory).linked a b
+    linked_found : k < length row → eqb (get_or row k 0) b ≡ (graph_of n d memory).linked a b
     linked_found l =
         ap (λ (i : ℕ). eqb (get_or row i 0) b) at ∙ place_has 0 row b row_rises (subst (λ (i : ℕ). i < length row) at l) ∙ linked_row b
 
-    pub linked_none : length row ≤ k → (y : ℕ) → b ≤ y → (graph_of n d memory).linked a y ≡ false
+    linked_none : length row ≤ k → (y : ℕ) → b ≤ y → (graph_of n d memory).linked a y ≡ false
     linked_none l y m = sym (linked_row y) ∙ place_none 0 row b row_rises (subst (λ (i : ℕ). length row ≤ i) at l) y m
 
-    pub linked_first : k < length row → First ((graph_of n d memory).linked a) b (get_or row k 0)
+    linked_first : k < length row → First ((graph_of n d memory).linked a) b (get_or row k 0)
     linked_first l =
         let first = subst (λ (i : ℕ). First (has row) b (get_or row i 0)) (sym at) (place_first 0 row b row_rises (subst (λ (i : ℕ). i < length row) at l)) in
         record {
@@ -204,6 +208,18 @@ module _ (n d limit total : ℕ) (memory : List ℕ) (made : RowsMade n d limit 
           hit = sym (linked_row (get_or row k 0)) ∙ first.hit;
           before = λ y m u. sym (linked_row y) ∙ first.before y m u;
         }
+
+    -- by what stands at k, if anything does
+    pub found_next : (r : Option ℕ) → MatchOption r (length row ≤ k) (λ x. (k < length row) × (x ≡ get_or row k 0)) → Next ((graph_of n d memory).linked a) b r
+    found_next None past = linked_none past
+    found_next (Some x) (l, at-k) = subst (First ((graph_of n d memory).linked a) b) (sym at-k) (linked_first l)
+
+    pub found_linked : (t : Bool) → t ≡ (ltb k (length row) && eqb (get_or row k 0) b) → t ≡ (graph_of n d memory).linked a b
+    found_linked t e =
+        e ∙ ⊎_elim
+        (λ l. rw (lt-ltb k (length row) l) (linked_found l))
+        (λ l. rw (le-ltb k (length row) l) (sym (linked_none l b (omega arith))))
+        (cases_lt k (length row))
 
   -- ---- the rise of a row
 

@@ -1,7 +1,7 @@
 -- A link book in rows of d + 1 numbers, one row for each load.
 use Rattle.std.specs.Prelude.{◌≡◌, ℕ, ◌+◌, ◌-◌, ◌*◌, ◌<◌, ◌≤◌, true, false, cond, ◌&&◌, ◌||◌, List, length, is_ok, Some, None, Option, Result, ◌==◌, nat_lt, slice_index}
 use Rattle.graph.specs.Graph.{Graph, link_count, edgeless}
-use Rattle.links.specs.Books.{Ledger, by_book}
+use Rattle.links.specs.Books.{Ledger, by_book, unless_size, unless_limit}
 use Rattle.links.specs.Memory.{Cleared}
 use Rattle.links.specs.Refusals.{Reason}
 use Rattle.links.specs.declared.refusal.Refused.{Refused}
@@ -45,17 +45,18 @@ abbrev pub book_graph : SortedRows → Graph
 book_graph s = graph_of s.size s.row_limit s.rows.now
 
 abbrev pub book_ledger : SortedRows → Ledger
-book_ledger s = ledger_of s.size s.row_limit s.limit s.count s.rows.now
+book_ledger s = ledger_of s.size s.row_limit s.tally.limit s.tally.count s.rows.now
 
 abbrev pub BookMade : SortedRows → Type 0
-BookMade s = RowsMade s.size s.row_limit s.limit s.count s.rows.now
+BookMade s = RowsMade s.size s.row_limit s.tally.limit s.tally.count s.rows.now
 
 -- the first reason not to make a book of n loads with row limit d and this link limit in so much memory
 abbrev pub checking : ℕ → ℕ → ℕ → ℕ → Option Reason
 checking n d limit memory =
-    cond (n == 0 || nat_lt 256 n) (by_book 1)
-    (cond ((limit == 0 || nat_lt 32640 limit) || (d == 0 || nat_lt 255 d)) (by_book 2)
-    (cond (nat_lt memory (n * (d + 1))) (by_book 3) None))
+    unless_size n
+    (unless_limit limit
+    (cond (d == 0 || nat_lt 255 d) (by_book 2)
+    (cond (nat_lt memory (n * (d + 1))) (by_book 3) None)))
 
 abbrev pub fresh : ℕ → ℕ → ℕ → Ledger
 fresh n d limit =

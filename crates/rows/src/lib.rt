@@ -9,7 +9,10 @@ ghost use Rattle.row.specs.Row.{row_with, row_without};
 ghost use Rattle.row.specs.Memory.{BothChanged};
 ghost use Rattle.rows.specs.Rows.{Whole, book_row, book_graph, book_ledger, BookMade, checking, Making, Written};
 
-use links::{Allowance, Book, Layer, Links, Refusal, Refused, check_add, check_remove};
+use links::{
+    Allowance, Book, Layer, Links, Refusal, Refused, Tally, check_add, check_limit, check_remove,
+    check_size,
+};
 use rise::first_unordered;
 use row::{Change, change_row, position, row_loads};
 
@@ -19,9 +22,7 @@ use row::{Change, change_row, position, row_loads};
 pub struct SortedRows<'a> {
     size: u16,
     row_limit: u8,
-    limit: usize,
-    // the number of links
-    count: usize,
+    tally: Tally,
     rows: &'a mut [u16],
 }
 
@@ -30,10 +31,9 @@ impl<'a> SortedRows<'a> {
     pub fn check(size: usize, row_limit: usize, limit: usize, rows: &[u16]) -> Result<(), Refused>
         ensures { Answers (checking size row_limit limit (length rows.now)) result (λ _. Unit {0}) }
     {
-        if size == 0 || size > 256 {
-            return Err(Refusal::SizeOutOfRange.by(Layer::Book));
-        }
-        if limit == 0 || limit > 32640 || row_limit == 0 || row_limit > 255 {
+        check_size(size)?;
+        check_limit(limit)?;
+        if !(1..=255).contains(&row_limit) {
             return Err(Refusal::LimitOutOfRange.by(Layer::Book));
         }
         if rows.len() < size * (row_limit + 1) {
@@ -54,16 +54,14 @@ impl<'a> SortedRows<'a> {
                 SortedRows {
                     size: size as u16,
                     row_limit: row_limit as u8,
-                    limit,
-                    count: 0,
+                    tally: Tally::new(limit),
                     rows,
                 }
             }
             Err(_) => SortedRows {
                 size: 0,
                 row_limit: 0,
-                limit: 0,
-                count: 0,
+                tally: Tally::new(0),
                 rows,
             },
         }
@@ -91,7 +89,7 @@ impl SortedRows<'_> {
 fn change_both(rows: &mut [u16], size: u16, row_limit: u8, a: usize, b: usize, change: Change)
     ensures { BothChanged change size row_limit a b rows.old rows.new }
 {
-    if a < size as usize && b < size as usize {
+    if a < usize::from(size) && b < usize::from(size) {
         change_row(rows, row_limit, a as u16, b as u16, change);
         change_row(rows, row_limit, b as u16, a as u16, change);
     }
@@ -103,13 +101,13 @@ impl Links for SortedRows<'_> {
     ghost made = { BookMade };
 
     fn size(&self) -> usize {
-        self.size as usize
+        usize::from(self.size)
     }
 
     fn linked(&self, a: usize, b: usize) -> bool {
         let row = self.row(a);
-        let k = position(row, b);
-        k < row.len() && row[k] as usize == b
+        row.get(position(row, b))
+            .is_some_and(|x| usize::from(*x) == b)
     }
 
     fn degree(&self, a: usize) -> usize {
@@ -118,16 +116,11 @@ impl Links for SortedRows<'_> {
 
     fn next_linked(&self, a: usize, from: usize) -> Option<usize> {
         let row = self.row(a);
-        let k = position(row, from);
-        if k < row.len() {
-            Some(row[k] as usize)
-        } else {
-            None
-        }
+        row.get(position(row, from)).map(|x| usize::from(*x))
     }
 
     fn link_count(&self) -> usize {
-        self.count
+        self.tally.count
     }
 }
 
@@ -135,7 +128,7 @@ impl Book for SortedRows<'_> {
     ghost ledger = { book_ledger };
 
     fn limit(&self) -> usize {
-        self.limit
+        self.tally.limit
     }
 
     fn is_barred(&self, _a: usize, _b: usize) -> bool {
@@ -143,14 +136,14 @@ impl Book for SortedRows<'_> {
     }
 
     fn spare(&self, a: usize) -> usize {
-        if a >= self.size as usize {
+        if a >= usize::from(self.size) {
             return 0;
         }
-        (self.row_limit as usize).saturating_sub(self.row(a).len())
+        usize::from(self.row_limit).saturating_sub(self.row(a).len())
     }
 
     fn room(&self) -> usize {
-        self.limit.saturating_sub(self.count)
+        self.tally.room()
     }
 
     fn add(&mut self, a: usize, b: usize) -> Result<(), Refused>
@@ -167,7 +160,7 @@ impl Book for SortedRows<'_> {
         check_add(self, a, b, allowance)?;
         let (size, row_limit) = (self.size, self.row_limit);
         change_both(self.rows, size, row_limit, a, b, Change::Insert);
-        self.count = self.count.saturating_add(1);
+        self.tally.add_one();
         Ok(())
     }
 
@@ -179,7 +172,7 @@ impl Book for SortedRows<'_> {
         check_remove(self, a, b)?;
         let (size, row_limit) = (self.size, self.row_limit);
         change_both(self.rows, size, row_limit, a, b, Change::Remove);
-        self.count = self.count.saturating_sub(1);
+        self.tally.remove_one();
         Ok(())
     }
 }

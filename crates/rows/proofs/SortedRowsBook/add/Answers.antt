@@ -1,23 +1,19 @@
-use Rattle.std.proofs.Common.{◌≡◌, ◌+◌, refl, arith}
+use Rattle.std.proofs.Common.{refl, arith}
 use Rattle.links.proofs.Reasons.{adding_none, refused_by, kept_same}
 use Rattle.row.specs.declared.Change.TheVariants.{Insert}
 use Rattle.rows.specs.Rows.{book_ledger, BookMade}
-use Rattle.rows.proofs.BookAnswers.{written_refused, stands_after}
+use Rattle.rows.proofs.BookAnswers.{stands_after}
 use Rattle.rows.proofs.BookChange.{after_adding}
 use Rattle.rows.proofs.SortedRowsBook.add.Goals as goal
 
-pub returns-in_err-check_add : goal.returns-in_err-check_add
-returns-in_err-check_add c =
+pub returns-in_err-check_add-clause-book : goal.returns-in_err-check_add-clause-book
+returns-in_err-check_add-clause-book c =
     record {
-      book = record {
-        kept = kept_same c.from_residual.result c.args.self.now;
-        answers = λ made.
-            refused_by _ c.in_err-check_add.field-0.0 c.from_residual.result _ c.from_residual.ensures.1
-            (c.in_err-check_add.ensures made (book_ledger c.args.self.now)
-            (record { barred = refl; spare_a = c.spare.ensures made; spare_b = c.spare-2.ensures made; room = c.room.ensures made }));
-      };
-      written = written_refused _ _ _ _ _ c.from_residual.ensures.0;
-      lender = refl;
+      kept = kept_same c.from_residual.result c.args.self.now;
+      answers = λ made.
+          refused_by _ c.in_err-check_add.field-0.0 c.from_residual.result _ c.from_residual.ensures.1
+          (c.in_err-check_add.ensures made (book_ledger c.args.self.now)
+          (record { barred = refl; spare_a = c.spare.ensures made; spare_b = c.spare-2.ensures made; room = c.room.ensures made }));
     }
 
 pub returns : goal.returns
@@ -25,13 +21,13 @@ returns c =
     let none = λ (made : BookMade c.args.self.now).
     (c.in_ok-check_add.ensures made (book_ledger c.args.self.now)
     (record { barred = refl; spare_a = c.spare.ensures made; spare_b = c.spare-2.ensures made; room = c.room.ensures made })).0 in
-    let after = λ (made : BookMade c.args.self.now). after_adding _ _ _ _ _ made _ _ (adding_none _ _ _ _ (none made)) in
+    let can = λ (made : BookMade c.args.self.now). adding_none _ _ _ _ (none made) in
+    let after = λ (made : BookMade c.args.self.now). after_adding _ _ _ _ _ made _ _ (can made) in
     record {
       book = record {
         kept = tt;
         answers = λ made.
-            let counted : c.saturating_add-self.result ≡ c.args.self.now.count + 1 = omega (arith, c.saturating_add-self.ensures, made.within, made.limit_bound) in
-            (none made, stands_after Insert _ _ _ _ _ _ _ (after made) counted c.change_both.ensures);
+            (none made, stands_after Insert _ _ _ _ _ _ _ _ (after made) (c.add_one.ensures.counted (omega (arith, (can made).room))) c.change_both.ensures);
       };
       written = record { size = refl; row_limit = refl; memory = λ made _. c.change_both.ensures.rows (after made).able; beyond = c.change_both.ensures.beyond };
       lender = refl;

@@ -1,38 +1,27 @@
-use Rattle.std.proofs.Common.{◌≡◌, None, refl, arith}
+use Rattle.std.proofs.Common.{◌≡◌, ◌+◌, ◌<◌, None, refl, sym, ap, ◌∙◌, subst, arith, rules}
 use Rattle.links.specs.Books.{adding}
-use Rattle.links.proofs.Reasons.{Addable, adding_none, refused_by, kept_same, not_granted}
-use Rattle.books.specs.Matrix.{matrix_graph, MatrixMade, matrix_ledger}
+use Rattle.links.specs.declared.tally.Tally.{Tally}
+use Rattle.links.proofs.Reasons.{Addable, adding_none, refused_by, kept_same}
+use Rattle.books.specs.declared.bit_matrix.BitMatrix.{BitMatrix}
+use Rattle.books.specs.Matrix.{matrix_graph, MatrixMade, matrix_ledger, rewritten}
 use Rattle.books.proofs.Writes.{grown}
 use Rattle.books.proofs.bit_matrix.BitMatrixBook.add.Goals as goal
 
-pub returns-in_err-check_add : goal.returns-in_err-check_add
-returns-in_err-check_add c =
+pub returns-in_err-check_add-clause-book : goal.returns-in_err-check_add-clause-book
+returns-in_err-check_add-clause-book c =
     record {
-      book = record {
-        kept = kept_same c.from_residual.result c.args.self.now;
-        answers = λ made.
-            refused_by _ c.in_err-check_add.field-0.0 c.from_residual.result _ c.from_residual.ensures.1
-            (c.in_err-check_add.ensures made (matrix_ledger c.args.self.now) (record { barred = refl; spare_a = c.spare.ensures made; spare_b = c.spare-2.ensures made; room = c.room.ensures made }));
-      };
-      lender = refl;
-      words = λ _ ok. absurd (not_granted c.from_residual.result _ c.from_residual.ensures.1 ok);
-      beyond = λ _ _. refl;
+      kept = kept_same c.from_residual.result c.args.self.now;
+      answers = λ made.
+          refused_by _ c.in_err-check_add.field-0.0 c.from_residual.result _ c.from_residual.ensures.1
+          (c.in_err-check_add.ensures made (matrix_ledger c.args.self.now) (record { barred = refl; spare_a = c.spare.ensures made; spare_b = c.spare-2.ensures made; room = c.room.ensures made }));
     }
 
 pub returns : goal.returns
 returns c =
     record {
-      book = record {
-        kept = tt;
-        answers = λ made. (
-          none made,
-          grown c.args.self.now c.put_link.new.words c.args.a c.args.b c.saturating_add-self.result made (can made)
-              (omega (arith, c.saturating_add-self.ensures, made.within, made.limit_bound))
-              (c.put_link.ensures.written made.small (can made).two.a_below (can made).two.b_below made.enough),
-        );
-      };
-      lender = refl;
-      words = λ made _. c.put_link.ensures.written made.small (can made).two.a_below (can made).two.b_below made.enough;
+      book = record { kept = tt; answers = λ made. (none made, grown c.args.self.now _ c.args.a c.args.b made (can made) (after made) (c.put_link.ensures.written (can made).two.a_below (can made).two.b_below made.enough)) };
+      lender = search rules;
+      words = λ made _. c.put_link.ensures.written (can made).two.a_below (can made).two.b_below made.enough;
       beyond = c.put_link.ensures.beyond;
     }
   where
@@ -42,3 +31,14 @@ returns c =
 
     can : MatrixMade c.args.self.now → Addable (matrix_graph c.args.self.now) (matrix_ledger c.args.self.now) c.args.a c.args.b
     can made = adding_none (matrix_graph c.args.self.now) (matrix_ledger c.args.self.now) c.args.a c.args.b (none made)
+
+    same : c.put_link.new.self.tally ≡ c.args.self.now.tally
+    same = ap (λ (m : BitMatrix). m.tally) c.put_link.ensures.rest
+
+    counted : MatrixMade c.args.self.now → c.add_one.new.self ≡ record { limit = c.args.self.now.tally.limit; count = c.args.self.now.tally.count + 1 }
+    counted made =
+        c.add_one.ensures.counted (subst (λ (t : Tally). t.count < t.limit) (sym same) (omega (arith, (can made).room)))
+        ∙ ap (λ (t : Tally). record { limit = t.limit; count = t.count + 1 }) same
+
+    after : MatrixMade c.args.self.now → record { size = c.put_link.new.self.size; tally = c.add_one.new.self; words = c.put_link.new.self.words } ≡ rewritten c.args.self.now (record { limit = c.args.self.now.tally.limit; count = c.args.self.now.tally.count + 1 }) c.put_link.new.self.words.now
+    after made = λ i. record { size = (c.put_link.ensures.rest i).size; tally = counted made i; words = (c.put_link.ensures.rest i).words }

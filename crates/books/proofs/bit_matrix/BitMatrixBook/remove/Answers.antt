@@ -1,37 +1,25 @@
-use Rattle.std.proofs.Common.{refl}
-use Rattle.links.proofs.Reasons.{Removable, removing_none, refused_by, kept_same, not_granted}
-use Rattle.books.specs.Matrix.{matrix_graph, MatrixMade}
+use Rattle.std.proofs.Common.{◌≡◌, ◌-◌, ap, ◌∙◌}
+use Rattle.links.proofs.Reasons.{Removable, removing_none}
+use Rattle.books.specs.declared.bit_matrix.BitMatrix.{BitMatrix}
+use Rattle.books.specs.Matrix.{matrix_graph, MatrixMade, rewritten}
 use Rattle.books.proofs.Writes.{shrunk}
 use Rattle.books.proofs.bit_matrix.BitMatrixBook.remove.Goals as goal
 
-pub returns-in_err-check_remove : goal.returns-in_err-check_remove
-returns-in_err-check_remove c =
+pub returns-clause-book : goal.returns-clause-book
+returns-clause-book c =
     record {
-      book = record {
-        kept = kept_same c.from_residual.result c.args.self.now;
-        answers = λ made. refused_by _ c.in_err-check_remove.field-0.0 c.from_residual.result _ c.from_residual.ensures.1 (c.in_err-check_remove.ensures made);
-      };
-      lender = refl;
-      words = λ _ ok. absurd (not_granted c.from_residual.result _ c.from_residual.ensures.1 ok);
-      beyond = λ _ _. refl;
-    }
-
-pub returns : goal.returns
-returns c =
-    record {
-      book = record {
-        kept = tt;
-        answers = λ made. (
-          (c.in_ok-check_remove.ensures made).0,
-          shrunk c.args.self.now c.put_link.new.words c.args.a c.args.b c.saturating_sub-self.result made (can made)
-              c.saturating_sub-self.ensures
-              (c.put_link.ensures.written made.small (can made).two.a_below (can made).two.b_below made.enough),
-        );
-      };
-      lender = refl;
-      words = λ made _. c.put_link.ensures.written made.small (can made).two.a_below (can made).two.b_below made.enough;
-      beyond = c.put_link.ensures.beyond;
+      kept = tt;
+      answers = λ made. (
+        (c.in_ok-check_remove.ensures made).0,
+        shrunk c.args.self.now _ c.args.a c.args.b made (can made) after (c.put_link.ensures.written (can made).two.a_below (can made).two.b_below made.enough),
+      );
     }
   where
     can : MatrixMade c.args.self.now → Removable (matrix_graph c.args.self.now) c.args.a c.args.b
     can made = removing_none (matrix_graph c.args.self.now) c.args.a c.args.b (c.in_ok-check_remove.ensures made).0
+
+    counted : c.remove_one.new.self ≡ record { limit = c.args.self.now.tally.limit; count = c.args.self.now.tally.count - 1 }
+    counted = c.remove_one.ensures ∙ ap (λ (m : BitMatrix). record { limit = m.tally.limit; count = m.tally.count - 1 }) c.put_link.ensures.rest
+
+    after : record { size = c.put_link.new.self.size; tally = c.remove_one.new.self; words = c.put_link.new.self.words } ≡ rewritten c.args.self.now (record { limit = c.args.self.now.tally.limit; count = c.args.self.now.tally.count - 1 }) c.put_link.new.self.words.now
+    after = λ i. record { size = (c.put_link.ensures.rest i).size; tally = counted i; words = (c.put_link.ensures.rest i).words }

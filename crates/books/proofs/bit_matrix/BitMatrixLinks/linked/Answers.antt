@@ -1,12 +1,13 @@
-use Rattle.std.proofs.Common.{ℕ, ◌%◌, sym, ap, ◌∙◌, arith}
+use Rattle.std.proofs.Common.{◌≡◌, ℕ, List, ap, ◌∙◌, rules}
 use Rattle.bits.specs.Bit.{bit}
-use Rattle.books.specs.Matrix.{cell}
-use Rattle.books.proofs.Cells.{linked_in}
+use Rattle.books.proofs.Words.{member}
+use Rattle.books.proofs.Cells.{row_linked}
 use Rattle.books.proofs.bit_matrix.BitMatrixLinks.linked.Goals as goal
 
 pub returns : goal.returns
-unfolding cell
+unfolding bit
 returns c made =
-    c.bit_of.ensures
-    ∙ ap (λ (x : ℕ). bit x (c.args.b % 64)) (c.word.ensures made.small (omega arith) (omega arith))
-    ∙ sym (linked_in c.args.self.now.size c.args.self.now.words.now c.args.a c.args.b (omega arith) (omega arith))
+    let found : c.is_some_and.result ≡ member c.row.result.now c.args.b = search rules in
+    found
+    ∙ ap (λ (row : List ℕ). member row c.args.b) (c.row.ensures.value made.enough)
+    ∙ row_linked c.args.self.now made c.args.a c.args.b

@@ -1,0 +1,41 @@
+// How many links a book has, and how many it may have.
+ghost use Rattle.std.specs.Prelude.{◌≡◌, ◌+◌, ◌-◌, ◌<◌, ◌≤◌};
+
+#[derive(Clone, Copy)]
+pub struct Tally {
+    pub limit: usize,
+    pub count: usize,
+}
+
+impl Tally {
+    // The tally of a book without links.
+    pub fn new(limit: usize) -> Tally
+        ensures { result ≡ record { limit = limit; count = 0 } }
+    {
+        Tally { limit, count: 0 }
+    }
+
+    // How many more links there may be.
+    pub fn room(&self) -> usize
+        ensures { result ≡ self.now.limit - self.now.count }
+    {
+        self.limit.saturating_sub(self.count)
+    }
+
+    // Counts a link more; at the limit it stays.
+    pub fn add_one(&mut self)
+        ensures counted { self.old.count < self.old.limit → self.new ≡ record { limit = self.old.limit; count = self.old.count + 1 } }
+        ensures full { self.old.limit ≤ self.old.count → self.new ≡ self.old }
+    {
+        if self.count < self.limit {
+            self.count += 1;
+        }
+    }
+
+    // Counts a link less; at 0 it stays.
+    pub fn remove_one(&mut self)
+        ensures { self.new ≡ record { limit = self.old.limit; count = self.old.count - 1 } }
+    {
+        self.count = self.count.saturating_sub(1);
+    }
+}
