@@ -4,7 +4,7 @@
 use commands::LONGEST_STREAM;
 use std::io;
 use std::io::Read;
-use transcript::{Failure, transcript};
+use transcript::transcript;
 
 fn main(rt: HostRuntime) -> io::Result<()> {
     let mut input = Vec::new(rt.alloc());
@@ -13,10 +13,7 @@ fn main(rt: HostRuntime) -> io::Result<()> {
         .read_to_end(&mut input)?;
     match transcript(rt.alloc(), input.as_slice()) {
         Ok(text) => rt.write_all(text.as_slice())?,
-        Err(Failure::Memory) => eprintln!(rt; "no memory is left")?,
-        Err(Failure::Input(refused)) => {
-            eprintln!(rt; "refused with {}", refused.refusal.number())?
-        }
+        Err(failure) => eprintln!(rt; "{failure}")?,
     }
     if input.len() == LONGEST_STREAM {
         eprintln!(rt; "nothing past the first {LONGEST_STREAM} bytes was read")?;

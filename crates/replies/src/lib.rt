@@ -2,15 +2,19 @@
 #![tactic(auto)]
 
 ghost use Rattle.std.specs.Prelude.{◌≡◌, ◌≤◌, length};
-ghost use Rattle.replies.specs.Buffers.{Appends};
 ghost use Rattle.replies.specs.Digits.{DigitsDecimal, TwoDigitsDecimal};
 ghost use Rattle.replies.specs.Lines.{words, line, pair_line, Writes};
 ghost use Rattle.replies.specs.Worked.{WorkedLines};
 
-use buffer::Buffer;
-use links::Refused;
+use arrayvec::ArrayString;
+use itoa::Buffer;
+use links::{Layer, Refusal, Refused};
 
-mod buffer;
+// No reply has a longer line.
+pub const LONGEST_LINE: usize = 19;
+
+// No pair has a longer line.
+pub const LONGEST_PAIR: usize = 8;
 
 // What a step answers.
 #[derive(Clone, Copy, PartialEq, Eq, Debug)]
@@ -29,48 +33,63 @@ impl Reply {
         ensures writes { Writes (line self) out.old result out.new }
         ensures short { length (line self) ≤ 19 }
     {
-        let mut buffer = Buffer::empty();
-        self.push_words(&mut buffer);
-        buffer.push(b'\n');
-        buffer.write(out)
+        let mut line = self.words();
+        line.push_str("\n");
+        write_text(line.as_str(), out)
     }
 
-    // The reply without its line feed.
-    fn push_words(self, buffer: &mut Buffer)
-        requires { buffer.old.len ≡ 0 }
-        ensures appends { Appends buffer.old (words self) buffer.new }
+    // The reply without its line feed. Not a Display: formatting may fail, and a reply never does.
+    #[tactic(auto, using(crate::proofs::Digits::digits_are))]
+    fn words(self) -> ArrayString<LONGEST_LINE>
+        ensures bytes { result.bytes ≡ words self }
         ensures short { length (words self) ≤ 18 }
     {
+        let mut text = ArrayString::new();
         match self {
-            Reply::Done => buffer.push_text(b"ok"),
-            Reply::Alone => buffer.push_text(b"alone"),
+            Reply::Done => text.push_str("ok"),
+            Reply::Alone => text.push_str("alone"),
             Reply::With(partner) => {
-                buffer.push_text(b"with ");
-                buffer.push_number(partner);
+                text.push_str("with ");
+                text.push_str(Buffer::new().format(partner));
             }
             Reply::No(refused, place) => {
-                buffer.push_text(b"no ");
-                buffer.push_two_digits(refused.refusal.number());
-                buffer.push(b' ');
-                buffer.push_text(refused.layer.name().as_bytes());
-                buffer.push(b' ');
-                buffer.push_number(place);
+                let number = refused.refusal.number();
+                text.push_str("no ");
+                text.push((b'0' + number / 10) as char);
+                text.push((b'0' + number % 10) as char);
+                text.push_str(" ");
+                text.push_str(refused.layer.name());
+                text.push_str(" ");
+                text.push_str(Buffer::new().format(place));
             }
         }
+        text
     }
 }
 
 // Writes the line of two partners at the start of `out`, and answers its length. 8 bytes are enough for every two.
+#[tactic(auto, using(crate::proofs::Digits::digits_are))]
 pub fn write_pair(a: u8, b: u8, out: &mut [u8]) -> Result<usize, Refused>
     ensures writes { Writes (pair_line a b) out.old result out.new }
     ensures short { length (pair_line a b) ≤ 8 }
 {
-    let mut buffer = Buffer::empty();
-    buffer.push_number(a as u16);
-    buffer.push(b' ');
-    buffer.push_number(b as u16);
-    buffer.push(b'\n');
-    buffer.write(out)
+    let mut line = ArrayString::<LONGEST_PAIR>::new();
+    line.push_str(Buffer::new().format(a));
+    line.push_str(" ");
+    line.push_str(Buffer::new().format(b));
+    line.push_str("\n");
+    write_text(line.as_str(), out)
+}
+
+// Writes a text at the start of `out`, and answers its length.
+fn write_text(text: &str, out: &mut [u8]) -> Result<usize, Refused>
+    ensures { Writes text.now out.old result out.new }
+{
+    if out.len() < text.len() {
+        return Err(Refusal::OutputTooShort.by(Layer::Stream));
+    }
+    out[..text.len()].copy_from_slice(text.as_bytes());
+    Ok(text.len())
 }
 
 // The decimal digits of a number read as that number and have no leading zeros; its two digits read as it too.

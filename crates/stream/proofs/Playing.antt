@@ -1,20 +1,19 @@
 -- The reply to a question for a partner.
-use Rattle.std.proofs.Common.{◌≡◌, ℕ, ◌%◌, ◌++◌, Some, None, Ok, Err, codes, Option, Result, sym, refl, ap, ◌∙◌, ap₂, arith}
+use Rattle.std.proofs.Common.{◌≡◌, ℕ, ◌%◌, ◌++◌, Some, None, Ok, codes, Option, sym, refl, ap, ◌∙◌, ap₂, arith}
 use Rattle.graph.specs.Graph.{Graph}
 use Rattle.graph.proofs.Partners.{partner_below}
 use Rattle.links.specs.Books.{Ledger}
 use Rattle.links.specs.Refusals.{Reason}
-use Rattle.links.specs.declared.refusal.Refused.{Refused}
 use Rattle.rules.specs.Calls.{Position, ask_partner, partner_of, unless}
 use Rattle.rules.specs.Repair.{Ranking}
 use Rattle.tables.specs.Views.{partners_of}
-use Rattle.board.specs.Boards.{position, Stands, Told}
+use Rattle.board.specs.Boards.{Stands, Told}
 use Rattle.board.specs.declared.Board.{Board}
 use Rattle.commands.specs.declared.Command.TheVariants.{Partner}
 use Rattle.replies.specs.Digits.{digits}
-use Rattle.replies.specs.Lines.{words}
-use Rattle.stream.specs.Replying.{partner_reply, Plays}
-use Rattle.stream.specs.Steps.{partner_words, words_by, answer_words}
+use Rattle.replies.specs.declared.Reply.TheVariants.{With}
+use Rattle.stream.specs.Replying.{Plays}
+use Rattle.stream.specs.Steps.{partner_words, words_by}
 
 unless_same : (o : Option Reason) (x : Position) → x ≡ unless o x x
 unless_same None x = refl
@@ -29,19 +28,13 @@ module _ {B R : Type 0} {graph : B → Graph} {made : B → Type 0} {ledger : B 
       let few = sound.simple.small in
       omega arith
 
-  question_words : (a place : ℕ) (r : Result (Option ℕ) Refused) → Told graph made ledger s (ask_partner a) r (λ x. partner_of x a) → Stands graph made ledger s →
-      words (partner_reply r place) ≡ answer_words (position graph ledger s) (Partner a) place
-  question_words a place (Ok None) told stood = sym (ap₂ (λ o p. words_by o place (partner_words p)) (told stood).0 (sym (told stood).1))
-  question_words a place (Ok (Some b)) told stood =
-      ap (λ n. codes "with " ++ digits n) (partner_narrow stood a b (sym (told stood).1))
-      ∙ sym (ap₂ (λ o p. words_by o place (partner_words p)) (told stood).0 (sym (told stood).1))
-  question_words a place (Err e) told stood = sym (ap (λ o. words_by o place (partner_words (partners_of s.tables a))) (told stood))
-
-  pub plays_question : {before : R → Ranking} (a place : ℕ) (r : Result (Option ℕ) Refused) → Told graph made ledger s (ask_partner a) r (λ x. partner_of x a) →
-      Plays graph made ledger before s (Partner a) place (partner_reply r place) s
-  plays_question a place r told = record {
+  pub plays_partner : {before : R → Ranking} (a b : ℕ) → Told graph made ledger s (ask_partner a) (Ok (Some b)) (λ x. partner_of x a) →
+      Plays graph made ledger before s (Partner a) (Ok (With (b % 256))) s
+  plays_partner a b told = record {
     ranking_is = refl;
-    words_are = question_words a place r told;
+    words_are = λ stood place.
+        ap (λ n. codes "with " ++ digits n) (partner_narrow stood a b (sym (told stood).1))
+        ∙ sym (ap₂ (λ o p. words_by o place (partner_words p)) (told stood).0 (sym (told stood).1));
     position_is = λ _. unless_same _ _;
     stands = λ stood. stood;
     refused_kept = λ _ _ _. refl;

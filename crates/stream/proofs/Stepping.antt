@@ -1,5 +1,5 @@
 -- A step at a place inside the stream, and what is written of it.
-use Rattle.std.proofs.Common.{◌≡◌, ℕ, ◌<◌, ◌≤◌, ltb, leb, List, ◌++◌, length, drop, Some, None, Ok, Err, codes, Option, sym, refl, ap, ◌∙◌, subst, inl, inr, arith}
+use Rattle.std.proofs.Common.{◌≡◌, ℕ, ◌<◌, ◌≤◌, ltb, leb, List, ◌++◌, length, drop, Some, None, Ok, Err, codes, Option, Result, sym, refl, ap, ◌∙◌, subst, inl, inr, arith}
 use Rattle.std.proofs.lemmas.Slice.{drop-append-drop}
 use Rattle.std.proofs.lemmas.Bool.{cond-true, cond-false, cases_lt, le-leb, lt-leb, le-ltb}
 use Rattle.std.proofs.lemmas.Bool.Decides.{nat_tests}
@@ -17,7 +17,7 @@ use Rattle.commands.proofs.Reading.{reading_inside}
 use Rattle.replies.specs.Lines.{line, refusal_words, unless_fits, Writes}
 use Rattle.replies.specs.declared.Reply.{Reply}
 use Rattle.replies.specs.declared.Reply.TheVariants.{No}
-use Rattle.stream.specs.Replying.{Plays}
+use Rattle.stream.specs.Replying.{reply_at, Plays}
 use Rattle.stream.specs.Steps.{Step, call_of, answer_words, step_by, step_at, stepping, Makes, Steps}
 
 pub stepping_none : (stream out : List ℕ) → stepping stream out ≡ None → (length stream ≤ 65536) × (19 ≤ length out)
@@ -71,15 +71,15 @@ module _ {B R : Type 0} (graph : B → Graph) (made : B → Type 0) (ledger : B 
     pub refused_kept : Stands graph made ledger s → (e : Reason) → reason (position graph ledger s) (call_of (decoded (drop place stream))) ≡ Some e → t ≡ s
 
 module _ {B R : Type 0} {graph : B → Graph} {made : B → Type 0} {ledger : B → Ledger} {before : R → Ranking} {s : Board B R} {stream : List ℕ} {place : ℕ} where
-  pub turns_command : {t : Board B R} (d : Decoded) (reply : Reply) → length stream ≤ 65536 → Reads stream place (Ok (Some d)) → Spans stream place d →
-      Plays graph made ledger before s d.command place reply t → Turns graph made ledger before s stream place reply d.next t
-  turns_command d reply short reads spans plays =
+  pub turns_command : {t : Board B R} (d : Decoded) (r : Result Reply Refused) → length stream ≤ 65536 → Reads stream place (Ok (Some d)) → Spans stream place d →
+      Plays graph made ledger before s d.command r t → Turns graph made ledger before s stream place (reply_at place r) d.next t
+  turns_command d r short reads spans plays =
       let x = position graph ledger s in
       record {
         ranking_is = plays.ranking_is;
         step_is = λ stood.
             let where_to = sym (plays.position_is stood) in
-            let says = sym (plays.words_are stood) in
+            let says = sym (plays.words_are stood place) in
             step_command stream place short (before s.ranking) x d reads spans ∙ (λ i. record { position = where_to i; place = d.next; line = says i ++ codes "\n" });
         stands = plays.stands;
         refused_kept = λ stood e why.

@@ -1,5 +1,5 @@
 -- The reply to a command, from what the board answered.
-use Rattle.std.specs.Prelude.{◌≡◌, ℕ, ◌%◌, Some, None, Ok, Err, Option, Result}
+use Rattle.std.specs.Prelude.{◌≡◌, ℕ, Some, Ok, Err, Result}
 use Rattle.graph.specs.Graph.{Graph}
 use Rattle.links.specs.Books.{Ledger}
 use Rattle.links.specs.Refusals.{Reason}
@@ -11,24 +11,18 @@ use Rattle.board.specs.declared.Board.{Board}
 use Rattle.commands.specs.declared.Command.{Command}
 use Rattle.replies.specs.Lines.{words}
 use Rattle.replies.specs.declared.Reply.{Reply}
-use Rattle.replies.specs.declared.Reply.TheVariants.{Done, Alone, With, No}
+use Rattle.replies.specs.declared.Reply.TheVariants.{No}
 use Rattle.stream.specs.Steps.{call_of, answer_words}
 
--- to a change
-abbrev pub change_reply : Result Unit Refused → ℕ → Reply
-change_reply (Ok x) place = Done
-change_reply (Err e) place = No e place
+-- a reply, or the refusal that is replied to the command at a place
+abbrev pub reply_at : ℕ → Result Reply Refused → Reply
+reply_at place (Ok reply) = reply
+reply_at place (Err e) = No e place
 
--- to the question for a partner
-abbrev pub partner_reply : Result (Option ℕ) Refused → ℕ → Reply
-partner_reply (Ok None) place = Alone
-partner_reply (Ok (Some b)) place = With (b % 256)
-partner_reply (Err e) place = No e place
-
--- the board s carries out the command c, or refuses it, replies r and is t after it
-pub record Plays {B R : Type 0} (graph : B → Graph) (made : B → Type 0) (ledger : B → Ledger) (before : R → Ranking) (s : Board B R) (c : Command) (place : ℕ) (r : Reply) (t : Board B R) : Type 0 where
+-- the board s carries out the command c and replies, or refuses it, and is t after it
+pub record Plays {B R : Type 0} (graph : B → Graph) (made : B → Type 0) (ledger : B → Ledger) (before : R → Ranking) (s : Board B R) (c : Command) (r : Result Reply Refused) (t : Board B R) : Type 0 where
   pub ranking_is : t.ranking ≡ s.ranking
-  pub words_are : Stands graph made ledger s → words r ≡ answer_words (position graph ledger s) c place
+  pub words_are : Stands graph made ledger s → (place : ℕ) → words (reply_at place r) ≡ answer_words (position graph ledger s) c place
   pub position_is : Stands graph made ledger s → position graph ledger t ≡ after (before s.ranking) (position graph ledger s) (call_of c)
   pub stands : Stands graph made ledger s → Stands graph made ledger t
   pub refused_kept : Stands graph made ledger s → (e : Reason) → reason (position graph ledger s) (call_of c) ≡ Some e → t ≡ s

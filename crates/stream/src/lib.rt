@@ -7,20 +7,14 @@ ghost use Rattle.links.specs.Refusals.{Answers};
 ghost use Rattle.board.specs.Boards.{position, Stands};
 ghost use Rattle.replies.specs.Lines.{Writes};
 ghost use Rattle.stream.specs.Pairs.{narrow_line, Lists};
-ghost use Rattle.stream.specs.Replying.{change_reply, partner_reply, Plays};
+ghost use Rattle.stream.specs.Replying.{Plays};
 ghost use Rattle.stream.specs.Steps.{stepping, Steps};
 
 use board::Board;
 use commands::{Command, LONGEST_STREAM, read};
 use links::{Book, Layer, Links, Refusal, Refused};
 use ranking::Ranking;
-use replies::{Reply, write_pair};
-
-// No reply has a longer line.
-const LONGEST_LINE: usize = 19;
-
-// No pair has a longer line.
-const LONGEST_PAIR: usize = 8;
+use replies::{LONGEST_LINE, LONGEST_PAIR, Reply, write_pair};
 
 // The place after a step, and how many bytes of its line were written.
 #[derive(Clone, Copy, PartialEq, Eq, Debug)]
@@ -29,43 +23,30 @@ pub struct Stepped {
     pub written: usize,
 }
 
-// A load in a byte: there are at most 256.
+// A load in a byte: there are at most 256. The remainder makes the cast safe on a board that did not come from opening.
 fn narrow(load: usize) -> u8
     ensures { result ≡ load % 256 }
 {
     (load % 256) as u8
 }
 
-fn reply_to_change(answer: Result<(), Refused>, place: u16) -> Reply
-    ensures { result ≡ change_reply answer place }
-{
-    match answer {
-        Ok(()) => Reply::Done,
-        Err(refused) => Reply::No(refused, place),
-    }
-}
-
-fn reply_to_question(answer: Result<Option<usize>, Refused>, place: u16) -> Reply
-    ensures { result ≡ partner_reply answer place }
-{
-    match answer {
-        Ok(None) => Reply::Alone,
-        Ok(Some(partner)) => Reply::With(narrow(partner) as u16),
-        Err(refused) => Reply::No(refused, place),
-    }
-}
-
-// Makes the call that a command asks for; the place is that of the command.
-fn play<B: Book, R: Ranking>(board: &mut Board<B, R>, command: Command, place: u16) -> Reply
-    ensures { Plays B.Links.graph B.Links.made B.Book.ledger R.Ranking.before board.old command place result board.new }
+// Makes the call that a command asks for, and answers the reply to one that is granted.
+fn play<B: Book, R: Ranking>(board: &mut Board<B, R>, command: Command) -> Result<Reply, Refused>
+    ensures { Plays B.Links.graph B.Links.made B.Book.ledger R.Ranking.before board.old command result board.new }
 {
     match command {
-        Command::Link(a, b) => reply_to_change(board.link(a as usize, b as usize), place),
-        Command::Unlink(a, b) => reply_to_change(board.unlink(a as usize, b as usize), place),
-        Command::Withdraw(a) => reply_to_change(board.withdraw(a as usize), place),
-        Command::Depart(a) => reply_to_change(board.depart(a as usize), place),
-        Command::Partner(a) => reply_to_question(board.partner(a as usize), place),
+        Command::Link(a, b) => board.link(usize::from(a), usize::from(b))?,
+        Command::Unlink(a, b) => board.unlink(usize::from(a), usize::from(b))?,
+        Command::Withdraw(a) => board.withdraw(usize::from(a))?,
+        Command::Depart(a) => board.depart(usize::from(a))?,
+        Command::Partner(a) => {
+            return Ok(match board.partner(usize::from(a))? {
+                Some(b) => Reply::With(u16::from(narrow(b))),
+                None => Reply::Alone,
+            });
+        }
     }
+    Ok(Reply::Done)
 }
 
 fn check_step(stream: &[u8], out: &[u8]) -> Result<(), Refused>
@@ -90,11 +71,12 @@ pub fn step<B: Book, R: Ranking>(
     ensures { Steps B.Links.graph B.Links.made B.Book.ledger R.Ranking.before board.old stream.now place out.old result board.new out.new }
 {
     check_step(stream, out)?;
-    let (next, reply) = match read(stream, place) {
+    let (next, answer) = match read(stream, place) {
         Ok(None) => return Ok(Stepped { place, written: 0 }),
-        Ok(Some(decoded)) => (decoded.next, play(board, decoded.command, place as u16)),
-        Err(refused) => (place, Reply::No(refused, place as u16)),
+        Ok(Some(decoded)) => (decoded.next, play(board, decoded.command)),
+        Err(refused) => (place, Err(refused)),
     };
+    let reply = answer.unwrap_or_else(|refused| Reply::No(refused, place as u16));
     let written = reply.write(out)?;
     Ok(Stepped {
         place: next,

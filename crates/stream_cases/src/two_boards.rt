@@ -52,9 +52,9 @@ fn play_in_turn<B: Book + Drop>(rt: &impl Abort, book_one: B, book_two: B) -> Re
     let mut two = Board::open(book_two, ByNumber);
     let mut place_one = 0;
     let mut place_two = 0;
-    for i in 0..7 {
-        place_one = play_one(rt, &mut one, &ONE, place_one, ONE_LINES[i])?;
-        place_two = play_one(rt, &mut two, &TWO, place_two, TWO_LINES[i])?;
+    for (line_one, line_two) in ONE_LINES.iter().zip(&TWO_LINES) {
+        place_one = play_one(rt, &mut one, &ONE, place_one, line_one)?;
+        place_two = play_one(rt, &mut two, &TWO, place_two, line_two)?;
     }
     check_pairs(rt, &one, "0 1\n2 3\n")?;
     check_pairs(rt, &two, "0 2\n1 3\n")

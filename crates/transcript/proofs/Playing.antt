@@ -89,17 +89,8 @@ module _ {B R : Type 0} (graph : B → Graph) (made : B → Type 0) (ledger : B 
     pub stands : Stands graph made ledger t
     pub remains : Remains (played n (before s.ranking) (position graph ledger s) stream 0) (played (n - i) (before s.ranking) (position graph ledger t) stream place) from text
 
-  pub left_none : (n : ℕ) (s : Board B R) (stream from : List ℕ) → Stands graph made ledger s → Left n 0 s stream from 0 s from
-  left_none n s stream from stood =
-      let whole : n - 0 ≡ n = omega arith in
-      let same = ap (λ k. played k (before s.ranking) (position graph ledger s) stream 0) whole in
-      record {
-        ranking_is = refl;
-        stands = stood;
-        remains = record { position_is = ap (λ (z : Played). z.position) same; text_is = ap (λ (z : Played). from ++ z.text) same };
-      }
-
-  module _ (n i place next : ℕ) (s t u : Board B R) (stream from text more : List ℕ) (left : Left n i s stream from place t text) (below : i < n)
+module _ {B R : Type 0} {graph : B → Graph} {made : B → Type 0} {ledger : B → Ledger} {before : R → Ranking} {n i place : ℕ} {s t : Board B R} {stream from text : List ℕ} (left : Left graph made ledger before n i s stream from place t text) where
+  module _ {next : ℕ} {u : Board B R} {more : List ℕ} (below : i < n)
       (pushes : Pushes graph made ledger (step_at (before t.ranking) (position graph ledger t) stream place) text next u more) where
     abbrev here : R → Step
     here o = step_at (before o) (position graph ledger t) stream place
@@ -125,7 +116,7 @@ module _ {B R : Type 0} (graph : B → Graph) (made : B → Type 0) (ledger : B 
           stands = adds.stands;
         }
 
-    pub left_more : u.ranking ≡ t.ranking → (next ≡ place → ⊥) → Left n (i + 1) s stream from next u more
+    pub left_more : u.ranking ≡ t.ranking → (next ≡ place → ⊥) → Left graph made ledger before n (i + 1) s stream from next u more
     left_more kept other =
         let order = before s.ranking in
         let rest = next_is ∙ and_goes_on place (here t.ranking) (later t.ranking) (λ same. other (pushes.place_is ∙ same)) in
@@ -140,9 +131,8 @@ module _ {B R : Type 0} (graph : B → Graph) (made : B → Type 0) (ledger : B 
           };
         }
 
-  pub left_all : (n i place : ℕ) (s t : Board B R) (stream from text : List ℕ) → n ≤ i → Left n i s stream from place t text →
-      Plays graph made ledger (played n (before s.ranking) (position graph ledger s) stream 0) from t text
-  left_all n i place s t stream from text done left =
+  pub left_all : n ≤ i → Plays graph made ledger (played n (before s.ranking) (position graph ledger s) stream 0) from t text
+  left_all done =
       let none : n - i ≡ 0 = omega arith in
       let rest = ap (λ k. played k (before s.ranking) (position graph ledger t) stream place) none ∙ played_none (before s.ranking) (position graph ledger t) stream place in
       record {

@@ -1,5 +1,5 @@
 -- Lines that are put at the end of the text, and the text of a fresh board.
-use Rattle.std.proofs.Common.{◌≡◌, ℕ, ◌*◌, List, [], ◌++◌, length, take, Some, None, Option, sym, refl, ap, ◌∙◌, ap₂, arith}
+use Rattle.std.proofs.Common.{◌≡◌, ℕ, ◌*◌, List, [], ◌++◌, length, take, drop, Some, None, Option, sym, refl, ap, ◌∙◌, ap₂, arith}
 use Rattle.std.proofs.lemmas.List.{take_at}
 use Rattle.std.proofs.lemmas.Bool.{cond-false, le-ltb}
 use Rattle.graph.specs.Graph.{Graph, edgeless}
@@ -14,14 +14,17 @@ use Rattle.tables.specs.Views.{partners_of}
 use Rattle.board.specs.Boards.{position, Stands, Opens}
 use Rattle.board.specs.declared.Board.{Board}
 use Rattle.stream.specs.Pairs.{lines_of, listing}
+use Rattle.stream.specs.Steps.{Step, Makes}
+use Rattle.stream.specs.declared.Stepped.{Stepped}
 use Rattle.transcript.specs.Texts.{Fails, Plays}
 use Rattle.transcript.specs.Transcript.{played, answered, start, transcript}
 use Rattle.transcript.specs.declared.Failure.{Failure}
 use Rattle.transcript.specs.declared.Failure.TheVariants.{Input, Memory}
 
--- what was written at the start of the output
-pub front_is : (front back whole : List ℕ) (n : ℕ) → whole ≡ front ++ back → n ≡ length front → take n whole ≡ front
-front_is front back whole n is size = ap (take n) is ∙ take_at front back n (sym size)
+-- the line of a step stands at the start of the output
+pub line_first : {B R : Type 0} {graph : B → Graph} {made : B → Type 0} {ledger : B → Ledger} {before : R → Ranking} {y : Step} {from : List ℕ} {r : Stepped} {t : Board B R} {out : List ℕ} →
+    Makes graph made ledger before y from r t out → take r.written out ≡ y.line
+line_first {y = y} {from = from} {r = r} makes = ap (take r.written) makes.out_is ∙ take_at y.line (drop (length y.line) from) r.written (sym makes.written_is)
 
 none_some : {o : Option Reason} (e : Reason) → o ≡ None → o ≡ Some e → ⊥
 none_some e none some = let z : ◌≡◌ {A = ℕ} 0 1 = cc in omega arith

@@ -1,3 +1,4 @@
 pub mod Transcript
 pub mod Texts
 pub mod Worked
+pub mod Words

@@ -1,20 +1,26 @@
 // All that is answered to a stream of commands: the line of each step, and then that of each pair.
 #![tactic(auto)]
 
-ghost use Rattle.std.specs.Prelude.{◌≡◌, ◌++◌, None};
+ghost use Rattle.std.specs.Prelude.{◌≡◌, ◌++◌, None, Some};
 ghost use Rattle.board.specs.Boards.{position, Stands};
 ghost use Rattle.stream.specs.Pairs.{lines_of};
 ghost use Rattle.transcript.specs.Texts.{Ends, PushesStep, PlaysAll};
 ghost use Rattle.transcript.specs.Transcript.{transcribing, transcript, PlayedOut};
 ghost use Rattle.transcript.specs.declared.Failure.TheVariants.{Input, Memory};
+ghost use Rattle.transcript.specs.Words.{failure_text};
 ghost use Rattle.transcript.specs.Worked.{WorkedStream};
 
 use board::Board;
 use books::bit_matrix::BitMatrix;
 use links::{Book, Refused};
 use ranking::{ByNumber, Ranking};
+use replies::{LONGEST_LINE, LONGEST_PAIR};
 use std::alloc::{AllocError, Global};
+use std::fmt;
 use stream::{list_pairs, step};
+
+// 256 loads have at most 128 pairs.
+const LONGEST_LIST: usize = 128 * LONGEST_PAIR;
 
 // Why there is no transcript: the input is refused, or there is no memory for the text.
 #[derive(Clone, Copy, PartialEq, Eq, Debug)]
@@ -39,6 +45,17 @@ impl From<AllocError> for Failure {
     }
 }
 
+impl fmt::Display for Failure {
+    ghost output = { λ f. Some (failure_text f) };
+
+    fn fmt<W: fmt::Write>(&self, f: &mut fmt::Formatter<W>) -> fmt::Result {
+        match self {
+            Failure::Input(refused) => write!(f, "refused with {}", refused.refusal.number()),
+            Failure::Memory => write!(f, "no memory is left"),
+        }
+    }
+}
+
 // Makes a step, puts its line at the end of the text, and answers the place after it.
 fn push_step<B: Book, R: Ranking>(
     board: &mut Board<B, R>,
@@ -48,7 +65,7 @@ fn push_step<B: Book, R: Ranking>(
 ) -> Result<usize, Failure>
     ensures { PushesStep B.Links.graph B.Links.made B.Book.ledger R.Ranking.before board.old stream.now place text.old.items result board.new text.new.items }
 {
-    let mut line = [0; 19];
+    let mut line = [0; LONGEST_LINE];
     let stepped = step(board, stream, place, &mut line)?;
     text.extend_from_slice(&line[..stepped.written])?;
     Ok(stepped.place)
@@ -63,7 +80,7 @@ fn play_all<B: Book, R: Ranking>(
     ensures { PlaysAll B.Links.graph B.Links.made B.Book.ledger R.Ranking.before board.old stream.now text.old.items result board.new text.new.items }
 {
     let mut place = 0;
-    for _i in 0..stream.len() {
+    for _ in 0..stream.len() {
         let next = push_step(board, stream, place, text)?;
         if next == place {
             return Ok(());
@@ -73,17 +90,18 @@ fn play_all<B: Book, R: Ranking>(
     Ok(())
 }
 
-// Puts the lines of the pairs at the end of the text: at most 128 of 8 bytes.
+// Puts the lines of the pairs at the end of the text.
 fn push_pairs<B: Book, R: Ranking>(board: &Board<B, R>, text: &mut Vec<u8>) -> Result<(), Failure>
     ensures { Stands B.Links.graph B.Links.made B.Book.ledger board.now → Ends None result (λ _. text.new.items ≡ text.old.items ++ lines_of (position B.Links.graph B.Book.ledger board.now)) }
 {
-    let mut lines = [0; 1024];
+    let mut lines = [0; LONGEST_LIST];
     let written = list_pairs(board, &mut lines)?;
     text.extend_from_slice(&lines[..written])?;
     Ok(())
 }
 
 // Plays the input on a fresh board of 256 loads, with at most 2,048 links and the lower number first.
+#[tactic(auto, using(crate::proofs::Playing::played_out))]
 pub fn transcript(heap: Global, input: &[u8]) -> Result<Vec<u8>, Failure>
     ensures ends { Ends (transcribing input.now) result (λ v. v.items ≡ transcript input.now) }
     ensures whole { PlayedOut }

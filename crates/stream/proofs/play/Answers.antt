@@ -1,7 +1,6 @@
-use Rattle.stream.proofs.Playing.{plays_question}
+use Rattle.stream.proofs.Playing.{plays_partner}
 use Rattle.stream.proofs.play.Goals as goal
 
-pub returns-in-Partner : goal.returns-in-Partner
-returns-in-Partner g c =
-    rw (c.in-Partner.is, c.reply_to_question.ensures)
-    (plays_question c.args.board.now c.in-Partner.a c.args.place c.partner.result c.partner.ensures)
+pub returns-in-Some : goal.returns-in-Some
+returns-in-Some g c =
+    rw (c.in-Partner.is, c.from-in-Some.ensures, c.narrow.ensures) (plays_partner c.args.board.now c.in-Partner.a c.in-Some.b (rw (c.in-Some.is, c.from-in-Partner.ensures) at c.in_ok-b-in-Partner.ensures))
