@@ -1,9 +1,9 @@
 pub mod Thresholds
 pub mod Recording
+pub mod Numbers
 pub mod Opened
 pub mod Granting
 pub mod Linked
-pub mod Parted
 pub mod Unlinked
 pub mod Stripped
 pub mod Leaving

@@ -11,21 +11,20 @@ ghost use Rattle.board.specs.Parting.{PartsPartners};
 use crate::{Board, threshold_of};
 use links::{Book, Layer, Links, Refusal, Refused, check_two};
 use ranking::Ranking;
-use repair::{repair_one, repair_two};
+use repair::Repair;
 use tables::Tables;
 
 // Parts a and b if they are partners.
 fn part_partners<L: Links>(tables: &mut Tables, links: &L, a: usize, b: usize)
     ensures { OfBook (L.Links.made links.now) (L.Links.graph links.now) (λ g. PartsPartners g a b tables.old tables.new) }
 {
-    if let Some(x) = tables.partner(a) {
-        if x == b {
-            tables.part(links, a, b);
-        }
+    if tables.partner(a) == Some(b) {
+        tables.part(links, a, b);
     }
 }
 
-// Removes all links of a load, whose partner stays as it is. It ends for every value of the book.
+// Removes all links of a load, whose partner stays as it is. It ends for every value of the book. The book changes at each
+// link, so the next one is asked of the book as it is then.
 fn remove_links<B: Book>(book: &mut B, tables: &mut Tables, a: usize)
     ensures { RemovesLinks B.Links.graph B.Links.made B.Book.ledger a book.old tables.old book.new tables.new }
 {
@@ -58,9 +57,10 @@ impl<B: Book, R: Ranking> Board<B, R> {
     {
         check_two(self.book.size(), a, b, Layer::Board)?;
         self.book.add(a, b)?;
-        let threshold = self.threshold();
         self.tables.link(a, b);
-        repair_two(&mut self.tables, &self.book, &self.ranking, threshold, a, b);
+        let threshold = self.threshold();
+        let repair = Repair::new(&self.book, &self.ranking, threshold);
+        repair.repair_two(&mut self.tables, a, b);
         Ok(())
     }
 
@@ -71,12 +71,14 @@ impl<B: Book, R: Ranking> Board<B, R> {
     {
         check_two(self.book.size(), a, b, Layer::Board)?;
         self.book.remove(a, b)?;
-        let threshold = self.threshold();
         self.tables.unlink(a, b);
         part_partners(&mut self.tables, &self.book, a, b);
-        repair_two(&mut self.tables, &self.book, &self.ranking, threshold, a, b);
+        let threshold = self.threshold();
+        let repair = Repair::new(&self.book, &self.ranking, threshold);
+        repair.repair_two(&mut self.tables, a, b);
         Ok(())
     }
+
     // Withdraws a load: all its links are removed, and the partner that it had is repaired. It looks at the links of the
     // load, and at those of the at most seven loads whose partner changes.
     pub fn withdraw(&mut self, a: usize) -> Result<(), Refused>
@@ -86,9 +88,10 @@ impl<B: Book, R: Ranking> Board<B, R> {
         let partner = self.tables.partner(a);
         remove_links(&mut self.book, &mut self.tables, a);
         if let Some(b) = partner {
-            let threshold = self.threshold();
             self.tables.part(&self.book, a, b);
-            repair_one(&mut self.tables, &self.book, &self.ranking, threshold, b);
+            let threshold = self.threshold();
+            let repair = Repair::new(&self.book, &self.ranking, threshold);
+            repair.repair(&mut self.tables, &[b]);
         }
         Ok(())
     }

@@ -26,12 +26,7 @@ pub struct Board<B, R> {
 fn threshold_of(limit: usize) -> usize
     ensures { limit ≤ 32640 → result ≡ threshold limit }
 {
-    for t in 0..256 {
-        if limit <= t * t / 2 {
-            return t;
-        }
-    }
-    256
+    (0..256).find(|&t| limit <= t * t / 2).unwrap_or(256)
 }
 
 impl<B: Book, R: Ranking> Board<B, R> {

@@ -6,22 +6,19 @@ ghost use Rattle.board.specs.Runs.{Law};
 ghost use Rattle.board.specs.Recording.{AllFree, links_before};
 
 use crate::{Board, threshold_of};
+use links::walk::linked_loads;
 use links::{Book, Links};
 use ranking::Ranking;
-use repair::repair_all;
+use repair::Repair;
+use std::array;
 use tables::Tables;
 
 // Records the links of a with the loads below it.
 fn record_below<L: Links>(tables: &mut Tables, links: &L, a: usize)
     ensures { OfBook (L.Links.made links.now) (L.Links.graph links.now) (λ g. a < g.size → AllFree (links_before g a 0) tables.old → AllFree (links_before g (a + 1) 0) tables.new) }
 {
-    let mut from = 0;
-    while let Some(b) = links.next_linked(a, from) {
-        if b < from || b >= a {
-            return;
-        }
+    for b in linked_loads(links, a, a) {
         tables.link(a, b);
-        from = b + 1;
     }
 }
 
@@ -44,9 +41,10 @@ impl<B: Book, R: Ranking> Board<B, R> {
         ensures law { B.Links.made book → Law B.Links.graph B.Links.made B.Book.ledger R.Ranking.before result }
     {
         let size = book.size().min(256);
-        let threshold = threshold_of(book.limit());
+        let loads: [usize; 256] = array::from_fn(|load| load);
         let mut tables = recorded(&book, size);
-        repair_all(&mut tables, &book, &ranking, threshold, size);
+        let repair = Repair::new(&book, &ranking, threshold_of(book.limit()));
+        repair.repair(&mut tables, &loads[..size]);
         Board {
             book,
             ranking,

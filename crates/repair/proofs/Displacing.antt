@@ -4,7 +4,7 @@ use Rattle.std.proofs.lemmas.Bool.{and_parts, lt-ltb, cond-true, true≢false}
 use Rattle.graph.specs.Graph.{Graph, degree}
 use Rattle.graph.specs.Matching.{Partners, Free, Matching}
 use Rattle.graph.specs.Pairs.{is_free}
-use Rattle.graph.proofs.Partners.{none_is, some_is}
+use Rattle.graph.proofs.Partners.{none_is}
 use Rattle.rules.specs.Repair.{Ranking, paired, light_partner, path_start_of, augmented_from, augment, displaced, displaced_from, light_start_of, displace, improved, improve}
 use Rattle.rules.proofs.First.{first_found}
 use Rattle.tables.specs.declared.Tables.{Tables}
@@ -38,12 +38,6 @@ module _ (before : Ranking) (n : ℕ) (g : Graph) (a : ℕ) {s : Tables} (k : Ag
   module _ (free : is_free p a ≡ true) where
     improve_by : (o : Option ℕ) → path_start_of before g p a ≡ o → improve before n g a p ≡ improved before n g p a o
     improve_by o e = cond-true (is_free p a) _ _ free ∙ ap (improved before n g p a) e
-
-    pub improve_path : {r : Bool} {t : Tables} → r ≡ true → Augments before g a r s t → Holds g (improve before n g a p) t
-    improve_path {r} {t} yes-path augments =
-        let done = augments (none_is (p a) free) k m in
-        let (x, start) = some_is (path_start_of before g p a) (sym done.found ∙ yes-path) in
-        subst (λ (q : Partners). Holds g q t) (ap (augmented_from before g p a) start ∙ sym (improve_by (Some x) start)) done.holds
 
     pub improve_other : {r : Bool} {u t : Tables} → r ≡ false → Augments before g a r s u →
         (Free (partners_of u) a → Changes g (displace before n g a) u t) → Holds g (improve before n g a p) t

@@ -4,3 +4,4 @@ pub mod Starts
 pub mod Taking
 pub mod Displacing
 pub mod Rounds
+pub mod Book

@@ -1,17 +1,16 @@
 -- The free loads other than one that a load is linked to, by the tables.
-use Rattle.std.proofs.Common.{◌≡◌, ℕ, zero, suc, ◌+◌, ◌<◌, ◌≤◌, Bool, true, false, not, ◌&&◌, eqb, ltb, Some, None, Option, sym, refl, ap, ◌∙◌, inl, inr, arith}
+use Rattle.std.proofs.Common.{◌≡◌, ℕ, zero, suc, ◌+◌, ◌<◌, ◌≤◌, Bool, true, false, not, ◌&&◌, eqb, ltb, Some, None, Option, MatchOption, sym, refl, ap, ◌∙◌, inl, inr, arith}
 use mathlib.Core.Path.{fun_ext}
-use Rattle.std.proofs.lemmas.Bool.{cases_lt, cases_eq, and_left, or_from, eq-eqb, ne_eqb, both_ways}
+use Rattle.std.proofs.lemmas.Bool.{cases_lt, cases_eq, and_left, or_from, ne_eqb, both_ways}
 use Rattle.std.proofs.lemmas.Bool.Decides.{nat_tests}
-use Rattle.graph.specs.Graph.{Graph, Simple, count, First}
+use Rattle.graph.specs.Graph.{Graph, Simple, count}
 use Rattle.graph.proofs.Injections.{except, count_except}
 use Rattle.rules.specs.First.{first}
 use Rattle.rules.specs.Repair.{Ranking, any_below, ends_path}
 use Rattle.tables.specs.declared.Tables.{Tables}
 use Rattle.tables.specs.Views.{partners_of, free_count_of, free_linked, Agrees}
-use Rattle.tables.proofs.Firsts.{past_size}
-use Rattle.repair.specs.Paths.{FirstOther, HasOther, GoesOver}
-use Rattle.repair.proofs.Walks.{walk_ends}
+use Rattle.tables.proofs.Firsts.{first_cut, past_size}
+use Rattle.repair.specs.Paths.{FirstOther, HasOther}
 
 -- some number passes a test if the count is not 0
 any_count : (n : ℕ) (test : ℕ → Bool) → ltb 0 (count n test) ≡ any_below n test
@@ -25,20 +24,14 @@ except_none test a off z = elim (cases_eq z a) [
   | inr apart ↦ let e = ne_eqb z a apart in grind arith
 ]
 
--- the next number from z on that passes a test is z, or z does not pass it
-pub next_here : (test : ℕ → Bool) (z x : ℕ) → First test z x → eqb x z ≡ test z
-next_here test z x next = elim (cases_eq x z) [
-  | inl same ↦ eq-eqb x z same ∙ sym (ap test (sym same) ∙ next.hit)
-  | inr apart ↦ ne_eqb x z apart ∙ sym (next.before z (omega arith) (omega (arith, next.past)))
-]
-
-any_nothing : (n : ℕ) → any_below n (λ _. false) ≡ false
+pub any_nothing : (n : ℕ) → any_below n (λ _. false) ≡ false
 any_nothing zero = refl
 any_nothing (suc n) = or_from (any_below n (λ _. false)) false (any_nothing n) refl
 
--- a load without a partner is on no path
-pub none_over : (a x : ℕ) (t : Tables) → partners_of t x ≡ None → GoesOver a x t false
-none_over a x t e g simple k = sym (ap (λ (o : Option ℕ). any_below g.size (ends_path g (partners_of t) a o)) e ∙ any_nothing g.size)
+-- what is asked of a partner, if there is one
+pub asked : (test : Option ℕ → Bool) (o : Option ℕ) (r : Bool) (P : ℕ → Type 0) → MatchOption o (r ≡ false) P → test None ≡ false → ((y : ℕ) → P y → r ≡ test (Some y)) → r ≡ test o
+asked test None r P h none some = h ∙ sym none
+asked test (Some y) r P h none some = some y h
 
 module _ (t : Tables) (y a : ℕ) where
   abbrev pub others : ℕ → Bool
@@ -57,10 +50,9 @@ module _ (t : Tables) (y a : ℕ) where
     inside : (z : ℕ) → free_linked t y z ≡ true → z < g.size
     inside z on = elim (cases_lt z g.size) [ inl l ↦ l | inr l ↦ absurd (both_ways (free_linked t y z) (free_past z l) on) ]
 
-  pub first_other : (before : Ranking) (from : ℕ) (best : Option ℕ) → best ≡ first (before y) from others →
-      ((z : ℕ) → from ≤ z → free_linked t y z ≡ false) → FirstOther before y a t best
-  first_other before from best e none g simple k =
-      walk_ends (before y) (free_linked t y) (λ z. not (eqb z a)) from g.size best e none (free_past g simple k)
+  pub first_other : (before : Ranking) {r : Option ℕ} → r ≡ first (before y) 256 others → FirstOther before y a t r
+  first_other before e g simple k =
+      e ∙ first_cut (before y) others g.size 256 simple.small (λ z h _. and_left (free_linked t y z) _ (free_past g simple k z h))
       ∙ ap (first (before y) g.size) (others_are g simple k)
 
   pub other_besides : free_linked t y a ≡ true → HasOther y a t (ltb 1 (free_count_of t y))

@@ -1,9 +1,9 @@
 -- One step of a repair after another.
-use Rattle.std.proofs.Common.{◌≡◌, ℕ, zero, suc, ◌+◌, ◌≤◌, List, [], ◌∷◌, sym, refl, ap, ◌∙◌, subst, inl, inr, add-one, arith}
+use Rattle.std.proofs.Common.{◌≡◌, ℕ, zero, suc, ◌+◌, ◌<◌, ◌≤◌, List, [], ◌∷◌, length, get_or, take, sym, refl, ap, ◌∙◌, subst, inl, inr, add-one, arith}
+use Rattle.std.proofs.lemmas.List.{take_all}
 use Rattle.graph.specs.Graph.{Graph, Simple}
 use Rattle.graph.specs.Matching.{Partners, Matching}
 use Rattle.rules.specs.Repair.{Ranking, match_free, each}
-use Rattle.rules.specs.Calls.{up_to}
 use Rattle.rules.proofs.MatchFree.{match_cases}
 use Rattle.rules.proofs.Updates.{paired_matching}
 use Rattle.tables.specs.declared.Tables.{Tables}
@@ -12,9 +12,6 @@ use Rattle.tables.specs.Choices.{Matched}
 use Rattle.repair.specs.Holds.{Changes, Holds}
 
 module _ (g : Graph) where
-  pub changes_none : {s : Tables} → Changes g (λ p. p) s s
-  changes_none {s} k m = record { partners = refl; agrees = k; matching = m }
-
   pub changes_then : (f h : Partners → Partners) {s u t : Tables} → Changes g f s u → Changes g h u t → Changes g (λ p. h (f p)) s t
   changes_then f h {s} {u} {t} first second k m =
       let done = first k m in
@@ -33,19 +30,19 @@ module _ (g : Graph) where
         ]);
       }
 
--- ---- a step at each load below a number
+-- ---- a step at each load of a list
 
 module _ (step : ℕ → Partners → Partners) where
-  each_up_to : (n : ℕ) (rest : List ℕ) (p : Partners) → each step (up_to n rest) p ≡ each step rest (each step (up_to n []) p)
-  each_up_to zero rest p = refl
-  each_up_to (suc n) rest p = each_up_to n (n ∷ rest) p ∙ ap (each step rest) (sym (each_up_to n (n ∷ []) p))
+  each_taken : (n : ℕ) (loads : List ℕ) (p : Partners) → n < length loads → each step (take (suc n) loads) p ≡ step (get_or loads n 0) (each step (take n loads) p)
+  each_taken n [] p h = absurd (omega arith)
+  each_taken zero (a ∷ rest) p h = refl
+  each_taken (suc n) (a ∷ rest) p h = each_taken n rest (step a p) (omega arith)
 
-  pub each_more : (g : Graph) (n : ℕ) {s u t : Tables} → Changes g (each step (up_to n [])) s u → Changes g (step n) u t → Changes g (each step (up_to (n + 1) [])) s t
-  each_more g n {s} {u} {t} before here k m =
-      subst (λ (q : Partners). Holds g q t) (sym (ap (λ (j : ℕ). each step (up_to j []) (partners_of s)) (add-one n) ∙ each_up_to n (n ∷ []) (partners_of s)))
-      (changes_then g (each step (up_to n [])) (step n) before here k m)
+  pub each_more : (g : Graph) (loads : List ℕ) (n : ℕ) {s u t : Tables} → n < length loads → Changes g (each step (take n loads)) s u → Changes g (step (get_or loads n 0)) u t →
+      Changes g (each step (take (n + 1) loads)) s t
+  each_more g loads n {s} {u} {t} h before here k m =
+      subst (λ (q : Partners). Holds g q t) (sym (ap (λ (j : ℕ). each step (take j loads) (partners_of s)) (add-one n) ∙ each_taken n loads (partners_of s) h))
+      (changes_then g (each step (take n loads)) (step (get_or loads n 0)) before here k m)
 
-  pub each_all : (g : Graph) (n size : ℕ) {s t : Tables} → n ≤ size → size ≤ n → Changes g (each step (up_to n [])) s t → Changes g (each step (up_to size [])) s t
-  each_all g n size {s} {t} low high done =
-      let same : n ≡ size = omega arith in
-      subst (λ (j : ℕ). Changes g (each step (up_to j [])) s t) same done
+  pub each_all : (g : Graph) (loads : List ℕ) (n : ℕ) {s t : Tables} → length loads ≤ n → Changes g (each step (take n loads)) s t → Changes g (each step loads) s t
+  each_all g loads n {s} {t} h done = subst (λ (l : List ℕ). Changes g (each step l) s t) (take_all n loads h) done

@@ -1,5 +1,5 @@
 -- Partners that are parted and paired anew along a path.
-use Rattle.std.proofs.Common.{◌≡◌, ℕ, ◌<◌, true, false, not, eqb, is_some, Some, None, Option, sym, refl, ap, ◌∙◌, subst, inl, arith}
+use Rattle.std.proofs.Common.{◌≡◌, ℕ, ◌<◌, true, not, eqb, is_some, Some, None, Option, sym, refl, ap, ◌∙◌, subst, inl, arith}
 use Rattle.std.proofs.lemmas.Bool.{and_parts, eqb-false, not-true}
 use Rattle.std.proofs.lemmas.Bool.Decides.{nat_tests}
 use Rattle.graph.specs.Graph.{Graph, Simple}
@@ -7,7 +7,7 @@ use Rattle.graph.specs.Matching.{Partners, Free, Matching}
 use Rattle.graph.specs.Pairs.{is_free}
 use Rattle.graph.proofs.Partners.{none_is}
 use Rattle.graph.proofs.Paths.{free_apart, linked_apart}
-use Rattle.rules.specs.Repair.{Ranking, paired, freed, paired_found, any_below, free_link, ends_path, begins_path, exchanged, augmented_from, augment, path_start_of}
+use Rattle.rules.specs.Repair.{Ranking, paired, freed, paired_found, any_below, free_link, ends_path, begins_path, exchanged, augmented_from, augment}
 use Rattle.rules.proofs.First.{first_found}
 use Rattle.rules.proofs.Updates.{paired_other, paired_matching, freed_two, freed_other, freed_matching, displace_is}
 use Rattle.tables.specs.declared.Tables.{Tables}
@@ -75,12 +75,6 @@ freed_paired y z p = λ i w. same w i
     same w = grind (arith, nat_tests)
 
 module _ (before : Ranking) (g : Graph) (simple : Simple g) (a : ℕ) (s : Tables) (free-a : Free (partners_of s) a) (k : Agrees g s) (m : Matching g (partners_of s)) where
-  pub augmented_none : path_start_of before g (partners_of s) a ≡ None → Augmented before g (partners_of s) a false s
-  augmented_none none = record {
-    found = sym (ap (λ (o : Option ℕ). is_some o) none);
-    holds = record { partners = sym (ap (augmented_from before g (partners_of s) a) none); agrees = k; matching = m };
-  }
-
   pub augmented_some : (x y z : ℕ) {u t : Tables} → FirstPath before g (partners_of s) a x y z → Takes g a x y s u → Pairing g y z u t →
       Augmented before g (partners_of s) a true t
   augmented_some x y z {u} {t} path take pair =

@@ -1,32 +1,66 @@
--- The first in a ranking among the loads that pass two tests, found by a walk over those that pass the first.
-use Rattle.std.proofs.Common.{◌≡◌, ℕ, ◌+◌, ◌<◌, ◌≤◌, Bool, true, false, ◌&&◌, Some, Option, sym, ap, ◌∙◌, inl, inr, arith}
+-- The first in a ranking among the loads that a walk comes to and that pass a test.
+use Rattle.std.proofs.Common.{◌≡◌, ℕ, ◌+◌, ◌<◌, ◌≤◌, Bool, true, false, ◌&&◌, Some, None, Option, sym, ap, ◌∙◌, subst, inl, inr, arith}
 use Rattle.std.proofs.lemmas.Bool.{cases_eq, and_from, and_left, and_right}
-use Rattle.graph.specs.Graph.{First}
+use Rattle.graph.specs.Graph.{Graph, Simple, First}
+use Rattle.links.specs.declared.walk.Walk.{Walk}
+use Rattle.links.specs.declared.walk.LinkedTo.{LinkedTo}
+use Rattle.links.specs.Walks.{NextBelow, Walks, Over}
 use Rattle.rules.specs.First.{earlier, first}
-use Rattle.tables.proofs.Firsts.{first_cut, first_more, first_all}
+use Rattle.tables.specs.declared.Tables.{Tables}
+use Rattle.tables.specs.declared.walk.FreeLinked.{FreeLinked}
+use Rattle.tables.specs.Views.{free_linked}
+use Rattle.tables.specs.Walks.{OverFree}
+use Rattle.tables.proofs.Firsts.{first_cut, first_more, past_size}
+use Rattle.repair.specs.Best.{BestOf}
 
 module _ (before : ℕ → ℕ → Bool) (walked kept : ℕ → Bool) where
   abbrev both : ℕ → Bool
   both z = walked z && kept z
 
-  module _ (from x : ℕ) (best : Option ℕ) (next : First walked from x) (e : best ≡ first before from both) (after : Option ℕ) where
-    pub walk_takes : kept x ≡ true → (y : ℕ) → y ≡ earlier before best x → after ≡ Some y → after ≡ first before (x + 1) both
-    walk_takes on y is now = now ∙ ap (λ (z : ℕ). Some z) is ∙ first_more before both from x best (record {
+  module _ (from x : ℕ) (best : Option ℕ) (next : First walked from x) (e : best ≡ first before from both) where
+    pub walk_takes : kept x ≡ true → {y to : ℕ} → y ≡ earlier before best x → to ≡ x + 1 → Some y ≡ first before to both
+    walk_takes on is to-is = first_more before both from x best (record {
       past = next.past;
       hit = and_from (walked x) (kept x) next.hit on;
       before = λ y h l. and_left (walked y) (kept y) (next.before y h l);
-    }) e
+    }) e is to-is
 
-    pub walk_skips : kept x ≡ false → after ≡ best → after ≡ first before (x + 1) both
-    walk_skips off same = same ∙ e ∙ sym (first_cut before both from (x + 1) (omega (arith, next.past)) none)
+    pub walk_skips : kept x ≡ false → {to : ℕ} → to ≡ x + 1 → best ≡ first before to both
+    walk_skips off {to} to-is = e ∙ sym (first_cut before both from to (omega (arith, next.past, to-is)) none)
       where
-        none : (y : ℕ) → from ≤ y → y < x + 1 → both y ≡ false
+        none : (y : ℕ) → from ≤ y → y < to → both y ≡ false
         none y h l = elim (cases_eq y x) [
           | inl here ↦ and_right (walked y) (kept y) (ap kept here ∙ off)
           | inr apart ↦ and_left (walked y) (kept y) (next.before y h (omega arith))
         ]
 
-  pub walk_ends : (from n : ℕ) (best : Option ℕ) → best ≡ first before from both → ((y : ℕ) → from ≤ y → walked y ≡ false) →
-      ((y : ℕ) → n ≤ y → walked y ≡ false) → best ≡ first before n both
-  walk_ends from n best e none past = e ∙ first_all before both from n
-      (λ y h. and_left (walked y) (kept y) (none y h)) (λ y h. and_left (walked y) (kept y) (past y h))
+  pub walk_ends : (from end : ℕ) (best : Option ℕ) → best ≡ first before from both → from ≤ end → NextBelow walked from end None → best ≡ first before end both
+  walk_ends from end best e low none = e ∙ sym (first_cut before both from end low (λ y h l. and_left (walked y) (kept y) (none y h l)))
+
+module _ {S : Type 0} (reliable : S → Type 0) (member : S → ℕ → Bool) (set : S) where
+  -- where a walk over a set goes on, once it gave x
+  pub walk_on : (end x : ℕ) {v w : Walk S} → Walks reliable member v (Some x) w → v.set ≡ set → v.end ≡ end → (w.set ≡ set) × (w.end ≡ end) × (w.from ≤ end) × (w.from ≡ x + 1)
+  walk_on end x {v} {w} step same stop =
+      let on = ap (λ (s : Walk S). s.from) step.after in
+      (ap (λ (s : Walk S). s.set) step.after ∙ same, ap (λ (s : Walk S). s.end) step.after ∙ stop, omega (arith, on, step.within, stop), on)
+
+  -- what a step of a walk says of its set
+  pub step_next : {v w : Walk S} {r : Option ℕ} → Walks reliable member v r w → v.set ≡ set → reliable set → NextBelow (member set) v.from v.end r
+  step_next {v} {w} {r} step same sure = subst (λ (s : S). NextBelow (member s) v.from v.end r) same (step.next (subst reliable (sym same) sure))
+
+-- the best of the loads that are linked to a, where the links came from their making
+pub linked_best : {L : Type 0} (made : L → Type 0) (graph : L → Graph) (answers : ℕ → Bool → Type 0) (before : ℕ → ℕ → Bool) (links : L) (a : ℕ) (w : Walk (LinkedTo L)) {r : Option ℕ} →
+    Over links a 256 w → w.from ≡ 0 → BestOf (λ s. made s.links.now) (λ s. (graph s.links.now).linked s.load) answers before w r → made links → Simple (graph links) →
+    (test : ℕ → Bool) → ((x : ℕ) (b : Bool) → answers x b → b ≡ test x) → r ≡ first before (graph links).size (λ x. (graph links).linked a x && test x)
+linked_best made graph answers before links a w over begins best sure simple test tells =
+    let g = graph links in
+    best (subst made (sym over.links_are) sure) begins test tells
+    ∙ (λ i. first before (over.end_is i) (λ x. (graph (over.links_are i)).linked (over.load_is i) x && test x))
+    ∙ first_cut before (λ x. g.linked a x && test x) g.size 256 simple.small (λ y h _. and_left (g.linked a y) (test y) (past_size g simple a y h))
+
+-- the best of the free loads that a is linked to
+pub free_best : (answers : ℕ → Bool → Type 0) (before : ℕ → ℕ → Bool) (t : Tables) (a : ℕ) (w : Walk FreeLinked) {r : Option ℕ} →
+    OverFree t a w → w.from ≡ 0 → BestOf (λ _. Unit {0}) (λ s. free_linked s.tables.now s.load) answers before w r →
+    (test : ℕ → Bool) → ((x : ℕ) (b : Bool) → answers x b → b ≡ test x) → r ≡ first before 256 (λ x. free_linked t a x && test x)
+free_best answers before t a w over begins best test tells =
+    best tt begins test tells ∙ (λ i. first before (over.end_is i) (λ x. free_linked (over.tables_are i) (over.load_is i) x && test x))

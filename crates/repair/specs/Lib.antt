@@ -1,2 +1,4 @@
 pub mod Paths
 pub mod Holds
+pub mod Book
+pub mod Best

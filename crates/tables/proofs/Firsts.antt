@@ -1,18 +1,22 @@
 -- The first in a ranking, found by a walk over a set.
-use Rattle.std.proofs.Common.{◌≡◌, ℕ, zero, suc, ◌+◌, ◌<◌, ◌≤◌, Bool, true, false, Some, None, Option, sym, ap, ◌∙◌, inl, inr, add-one, arith}
+use Rattle.std.proofs.Common.{◌≡◌, ℕ, zero, suc, ◌+◌, ◌<◌, ◌≤◌, Bool, true, false, Some, None, Option, sym, ap, ◌∙◌, subst, ap₂, inl, inr, arith}
 use mathlib.Core.Path.{fun_ext}
 use Rattle.std.proofs.lemmas.Bool.{cases_lt, cases_Bool, cond-true, cond-false, and_left, and_parts}
 use Rattle.graph.specs.Graph.{Graph, Simple, First}
 use Rattle.graph.specs.Pairs.{is_free}
 use Rattle.graph.proofs.Partners.{none_is}
 use Rattle.graph.proofs.Paths.{linked_apart}
+use Rattle.links.specs.declared.walk.Walk.{Walk}
+use Rattle.links.specs.Walks.{NextBelow, past, Walks}
 use Rattle.rules.specs.First.{earlier, first}
 use Rattle.rules.specs.Repair.{Ranking, free_link, paired_found, match_free}
 use Rattle.rules.proofs.First.{first_found}
 use Rattle.tables.specs.declared.Tables.{Tables}
+use Rattle.tables.specs.declared.walk.FreeLinked.{FreeLinked}
 use Rattle.tables.specs.Views.{partners_of, free_linked, Agrees}
 use Rattle.tables.specs.Changes.{Pairing}
 use Rattle.tables.specs.Choices.{FirstFree, Matched}
+use Rattle.tables.specs.Walks.{OverFree}
 
 module _ (before : ℕ → ℕ → Bool) (test : ℕ → Bool) where
   -- what does not pass the test changes nothing
@@ -23,10 +27,12 @@ module _ (before : ℕ → ℕ → Bool) (test : ℕ → Bool) where
     | inr l ↦ cond-false (test m) _ _ (none m l (omega arith)) ∙ again l (λ y p q. none y p (omega arith))
   ]
 
-  pub first_more : (from x : ℕ) (best : Option ℕ) → First test from x → best ≡ first before from test → Some (earlier before best x) ≡ first before (x + 1) test
-  first_more from x best next e =
+  -- the next that passes is compared with the best so far
+  pub first_more : (from x : ℕ) (best : Option ℕ) → First test from x → best ≡ first before from test → {y to : ℕ} → y ≡ earlier before best x → to ≡ x + 1 → Some y ≡ first before to test
+  first_more from x best next e {y} {to} is on =
       let so_far : first before x test ≡ best = first_cut from x next.past next.before ∙ sym e in
-      sym (ap (λ (k : ℕ). first before k test) (add-one x) ∙ cond-true (test x) _ _ next.hit ∙ ap (λ (o : Option ℕ). Some (earlier before o x)) so_far)
+      let to-is : to ≡ suc x = omega arith in
+      ap (λ (z : ℕ). Some z) is ∙ sym (ap (λ (k : ℕ). first before k test) to-is ∙ cond-true (test x) _ _ next.hit ∙ ap (λ (o : Option ℕ). Some (earlier before o x)) so_far)
 
   -- the best so far is the best of all where none is left
   pub first_all : (from n : ℕ) → ((y : ℕ) → from ≤ y → test y ≡ false) → ((y : ℕ) → n ≤ y → test y ≡ false) → first before from test ≡ first before n test
@@ -37,30 +43,34 @@ module _ (before : ℕ → ℕ → Bool) (test : ℕ → Bool) where
 pub past_size : (g : Graph) → Simple g → (a y : ℕ) → g.size ≤ y → g.linked a y ≡ false
 past_size g simple a y h = elim (cases_Bool (g.linked a y)) [ inl e ↦ absurd (omega (arith, simple.below y a (simple.symmetric y a ∙ e))) | inr e ↦ e ]
 
-pub first_is : (before : Ranking) (t : Tables) (a from : ℕ) → ((y : ℕ) → from ≤ y → free_linked t a y ≡ false) → FirstFree before a t (first (before a) from (free_linked t a))
-first_is before t a from none g simple k =
-    first_all (before a) (free_linked t a) from g.size none (λ y h. k.tracks.sets a y ∙ and_left (g.linked a y) _ (past_size g simple a y h))
-    ∙ ap (first (before a) g.size) (fun_ext (k.tracks.sets a))
+-- a walk over the free loads that a is linked to goes on over them, from past the one that it gave
+pub free_step : (t : Tables) (a : ℕ) {v w : Walk FreeLinked} {r : Option ℕ} → OverFree t a v → Walks (λ _. Unit {0}) (λ s. free_linked s.tables.now s.load) v r w →
+    OverFree t a w × (w.from ≡ past v.from r) × NextBelow (free_linked t a) v.from 256 r
+free_step t a {v} {w} {r} over step = (
+  rw step.after (record { tables_are = over.tables_are; load_is = over.load_is; end_is = over.end_is }),
+  ap (λ (s : Walk FreeLinked). s.from) step.after,
+  subst (λ (n : ℕ). NextBelow (free_linked t a) v.from n r) over.end_is
+      (subst (λ (test : ℕ → Bool). NextBelow test v.from v.end r) (ap₂ free_linked over.tables_are over.load_is) (step.next tt)),
+)
+
+pub first_is : (before : Ranking) (t : Tables) (a from : ℕ) (best : Option ℕ) → best ≡ first (before a) from (free_linked t a) → NextBelow (free_linked t a) from 256 None → FirstFree before a t best
+first_is before t a from best e none g simple k =
+    let past : (y : ℕ) → g.size ≤ y → free_linked t a y ≡ false = λ y h. k.tracks.sets a y ∙ and_left (g.linked a y) _ (past_size g simple a y h) in
+    let all : (y : ℕ) → from ≤ y → free_linked t a y ≡ false = λ y h. elim (cases_lt y 256) [ inl l ↦ none y h l | inr l ↦ past y (omega (arith, simple.small)) ] in
+    e ∙ first_all (before a) (free_linked t a) from g.size all past ∙ ap (first (before a) g.size) (fun_ext (k.tracks.sets a))
 
 -- ---- a load matched with the first
 
-module _ (before : Ranking) (g : Graph) (simple : Simple g) (a : ℕ) (s : Tables) (k : Agrees g s) where
-  pub matched_taken : is_free (partners_of s) a ≡ false → Matched before g a s s
-  matched_taken taken = record { partners = sym (cond-false (is_free (partners_of s) a) _ _ taken); agrees = k }
+module _ (before : Ranking) (g : Graph) (simple : Simple g) (a : ℕ) (s : Tables) (k : Agrees g s) (free : is_free (partners_of s) a ≡ true) where
+  found : (r : Option ℕ) → FirstFree before a s r → match_free before g a (partners_of s) ≡ paired_found a r (partners_of s)
+  found r h = cond-true (is_free (partners_of s) a) _ _ free ∙ ap (λ (o : Option ℕ). paired_found a o (partners_of s)) (sym (h g simple k))
 
-  module _ (free : is_free (partners_of s) a ≡ true) where
-    found : (r : Option ℕ) → FirstFree before a s r → match_free before g a (partners_of s) ≡ paired_found a r (partners_of s)
-    found r h = cond-true (is_free (partners_of s) a) _ _ free ∙ ap (λ (o : Option ℕ). paired_found a o (partners_of s)) (sym (h g simple k))
-
-    pub matched_none : FirstFree before a s None → Matched before g a s s
-    matched_none h = record { partners = sym (found None h); agrees = k }
-
-    pub matched_some : (b : ℕ) {t : Tables} → FirstFree before a s (Some b) → Pairing g a b s t → Matched before g a s t
-    matched_some b h pair =
-        let first-b = first_found (before a) g.size (free_link g (partners_of s) a) b (sym (h g simple k)) in
-        let (link, free-b) = and_parts (g.linked a b) (is_free (partners_of s) b) first-b.passes in
-        let in-a = simple.below a b link in
-        record {
-          partners = pair.partners (omega (arith, simple.small)) (omega (arith, simple.small, first-b.inside)) ∙ sym (found (Some b) h);
-          agrees = pair.agrees in-a first-b.inside (linked_apart g simple a b link) (none_is (partners_of s a) free) (none_is (partners_of s b) free-b) k;
-        }
+  pub matched_some : (b : ℕ) {t : Tables} → FirstFree before a s (Some b) → Pairing g a b s t → Matched before g a s t
+  matched_some b h pair =
+      let first-b = first_found (before a) g.size (free_link g (partners_of s) a) b (sym (h g simple k)) in
+      let (link, free-b) = and_parts (g.linked a b) (is_free (partners_of s) b) first-b.passes in
+      let in-a = simple.below a b link in
+      record {
+        partners = pair.partners (omega (arith, simple.small)) (omega (arith, simple.small, first-b.inside)) ∙ sym (found (Some b) h);
+        agrees = pair.agrees in-a first-b.inside (linked_apart g simple a b link) (none_is (partners_of s a) free) (none_is (partners_of s b) free-b) k;
+      }

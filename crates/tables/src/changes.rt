@@ -1,4 +1,5 @@
-// What follows a change of a link or of a partner.
+// What follows a change of a link or of a partner. A flag `on` or `up` says what holds afterwards: linked or not, free or
+// not. It is a bool, as the bit that is written.
 ghost use Rattle.std.specs.Prelude.{◌≡◌, ℕ, ◌≤◌, true, false, ◌&&◌, ◌⊎◌, ◌==◌, nat_eq};
 ghost use Rattle.graph.specs.Pairs.{is_free};
 ghost use Rattle.tables.specs.Views.{partners_of};
@@ -7,6 +8,7 @@ ghost use Rattle.tables.specs.Changes.{OfBook, Relinking, PartnerSet, Pairing, P
 
 use crate::Tables;
 use links::Links;
+use links::walk::linked_loads;
 
 // One more or one less.
 fn step(n: u16, up: bool) -> u16
@@ -53,9 +55,9 @@ impl Tables {
         ensures changed { Relinking on a b self.old self.new }
         ensures ignored { (256 ≤ a) ⊎ (256 ≤ b) → self.new ≡ self.old }
     {
-        if a < 256 && b < 256 {
-            self.put_link(a as u8, b as u8, on);
-            self.put_link(b as u8, a as u8, on);
+        if let (Ok(a), Ok(b)) = (u8::try_from(a), u8::try_from(b)) {
+            self.put_link(a, b, on);
+            self.put_link(b, a, on);
         }
     }
 
@@ -79,13 +81,8 @@ impl Tables {
     fn tell_linked<L: Links>(&mut self, links: &L, a: u8, on: bool)
         ensures { OfBook (L.Links.made links.now) (L.Links.graph links.now) (λ g. Stepped on (λ _. false) (g.linked a) a self.old self.new) }
     {
-        let mut from = 0;
-        while let Some(x) = links.next_linked(a as usize, from) {
-            if x < from || x >= 256 {
-                return;
-            }
+        for x in linked_loads(links, a as usize, 256) {
             self.tell(x as u8, a, on);
-            from = x + 1;
         }
     }
 
@@ -108,9 +105,9 @@ impl Tables {
         ensures changed { OfBook (L.Links.made links.now) (L.Links.graph links.now) (λ g. Pairing g a b self.old self.new) }
         ensures ignored { (256 ≤ a) ⊎ (256 ≤ b) → self.new ≡ self.old }
     {
-        if a < 256 && b < 256 {
-            self.set_partner(links, b as u8, Some(a as u8));
-            self.set_partner(links, a as u8, Some(b as u8));
+        if let (Ok(a), Ok(b)) = (u8::try_from(a), u8::try_from(b)) {
+            self.set_partner(links, b, Some(a));
+            self.set_partner(links, a, Some(b));
         }
     }
 
@@ -119,9 +116,9 @@ impl Tables {
         ensures changed { OfBook (L.Links.made links.now) (L.Links.graph links.now) (λ g. Parting g a b self.old self.new) }
         ensures ignored { (256 ≤ a) ⊎ (256 ≤ b) → self.new ≡ self.old }
     {
-        if a < 256 && b < 256 {
-            self.set_partner(links, b as u8, None);
-            self.set_partner(links, a as u8, None);
+        if let (Ok(a), Ok(b)) = (u8::try_from(a), u8::try_from(b)) {
+            self.set_partner(links, b, None);
+            self.set_partner(links, a, None);
         }
     }
 }

@@ -25,10 +25,8 @@ impl Tables {
         ensures { FirstFree (R.Ranking.before ranking.now) a self.now result }
     {
         let mut best = None;
-        let mut from = 0;
-        while let Some(x) = self.next_free_linked(a, from) {
+        for x in self.free_loads(a) {
             best = Some(earlier(ranking, a, best, x));
-            from = x + 1;
         }
         best
     }
@@ -37,10 +35,9 @@ impl Tables {
     pub fn match_free<L: Links, R: Ranking>(&mut self, links: &L, ranking: &R, a: usize)
         ensures { OfBook (L.Links.made links.now) (L.Links.graph links.now) (λ g. Agrees g self.old → Matched (R.Ranking.before ranking.now) g a self.old self.new) }
     {
-        if !self.is_free(a) {
-            return;
-        }
-        if let Some(b) = self.first_free(ranking, a) {
+        if self.is_free(a)
+            && let Some(b) = self.first_free(ranking, a)
+        {
             self.pair(links, a, b);
         }
     }

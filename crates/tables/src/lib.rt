@@ -9,6 +9,7 @@ ghost use Rattle.tables.specs.Views.{record_of, partners_of, links_of, free_coun
 mod changes;
 pub mod choices;
 mod load_set;
+pub mod walk;
 
 // What is kept of a load: its partner, how many links it has, and how many of them lead to free loads.
 #[derive(Clone, Copy)]
@@ -52,19 +53,13 @@ impl Tables {
     fn record(&self, a: usize) -> Record
         ensures { result ≡ record_of self.now a }
     {
-        match self.records.get(a) {
-            Some(record) => *record,
-            None => BLANK,
-        }
+        self.records.get(a).copied().unwrap_or(BLANK)
     }
 
     pub fn partner(&self, a: usize) -> Option<usize>
         ensures { result ≡ partners_of self.now a }
     {
-        match self.record(a).partner {
-            Some(b) => Some(b as usize),
-            None => None,
-        }
+        self.record(a).partner.map(usize::from)
     }
 
     pub fn is_free(&self, a: usize) -> bool
@@ -77,13 +72,7 @@ impl Tables {
     pub fn matched(&self) -> usize
         ensures { result ≡ matched_of self.now }
     {
-        let mut matched = 0;
-        for record in &self.records {
-            if record.partner.is_some() {
-                matched += 1;
-            }
-        }
-        matched
+        self.records.iter().filter(|r| r.partner.is_some()).count()
     }
 
     // The number of links of a load.
@@ -105,12 +94,6 @@ impl Tables {
         ensures value { Next (free_linked self.now a) from result }
         ensures bound { IfSome result (λ b. b < 256) }
     {
-        let Some(set) = self.free.get(a) else {
-            return None;
-        };
-        match set.next(from) {
-            Some(b) => Some(b as usize),
-            None => None,
-        }
+        self.free.get(a)?.next(from).map(usize::from)
     }
 }

@@ -7,12 +7,12 @@ use crate::LoadSet;
 use bits::{next_bit, with_bit, without_bit};
 
 impl LoadSet {
-    // Puts b into the set, or takes it out.
-    pub(super) fn put(&mut self, b: u8, on: bool)
-        ensures { (y : ℕ) → has self.new y ≡ (if nat_eq b y then on else has self.old y) }
+    // Puts b into the set, or takes it out: afterwards `present` says whether it is a member.
+    pub(super) fn put(&mut self, b: u8, present: bool)
+        ensures { (y : ℕ) → has self.new y ≡ (if nat_eq b y then present else has self.old y) }
     {
         let w = (b / 64) as usize;
-        self.words[w] = if on {
+        self.words[w] = if present {
             with_bit(self.words[w], b as usize)
         } else {
             without_bit(self.words[w], b as usize)
@@ -23,13 +23,11 @@ impl LoadSet {
     pub(super) fn next(&self, from: usize) -> Option<u8>
         ensures { Next (has self.now) from result }
     {
-        let mut at = from;
-        while at < 256 {
-            let w = at / 64;
-            if let Some(k) = next_bit(self.words[w], at % 64) {
+        for w in from / 64..4 {
+            // in the words after that of `from` the search begins at bit 0
+            if let Some(k) = next_bit(self.words[w], from.saturating_sub(64 * w)) {
                 return Some((64 * w + k) as u8);
             }
-            at = 64 * w + 64;
         }
         None
     }

@@ -1,4 +1,7 @@
-use Rattle.std.proofs.Common.{sym, refl}
+use Rattle.std.proofs.Common.{[], ◌∷◌, sym, refl}
+use Rattle.rules.specs.Repair.{repair}
+use Rattle.repair.specs.Holds.{Changes}
+use Rattle.repair.proofs.Book.{on_book}
 use Rattle.board.proofs.Withdrawn.{withdrawn_free, withdrawn_partner}
 use Rattle.board.proofs.Board.withdraw.Goals as goal
 
@@ -8,10 +11,13 @@ returns-in-Some g c = record {
   ranking_is = refl;
   leads = λ stands.
       let s = c.args.self.now in
+      let parts = c.new-repair.ensures in
+      let change = on_book g.B.Links.made g.B.Links.graph g.R.Ranking.before (λ before t graph. Changes graph (repair before t graph (c.in-Some.b ∷ [])) c.part.new.self c.repair.new.tables)
+      c.new-repair.result c.remove_links.new.book s.ranking c.threshold-threshold.result parts.links parts.ranking parts.threshold c.repair.ensures in
       withdrawn_partner g.B.Links.graph g.B.Links.made g.B.Book.ledger g.R.Ranking.before s stands c.args.a (c.in_ok-check_load.ensures stands.book_made).0
-      (record { book = c.remove_links.new.book; ranking = s.ranking; tables = c.repair_one.new.tables }) c.in-Some.b (sym c.in-Some.ensures)
+      (record { book = c.remove_links.new.book; ranking = s.ranking; tables = c.repair.new.tables }) c.in-Some.b (sym c.in-Some.ensures)
       c.remove_links.new.tables c.part.new.self c.remove_links.ensures c.part.ensures.changed
-      c.threshold-threshold.result c.threshold-threshold.ensures.value c.threshold-threshold.ensures.bounded c.repair_one.ensures;
+      c.threshold-threshold.result c.threshold-threshold.ensures.value c.threshold-threshold.ensures.bounded change;
 }
 
 pub returns-in_default : goal.returns-in_default

@@ -1,21 +1,26 @@
-use Rattle.std.proofs.Common.{arith}
-use Rattle.board.proofs.Recording.{record_more, record_row}
+use Rattle.std.proofs.Common.{ℕ, sym, subst, arith}
+use Rattle.board.specs.Recording.{AllFree, links_before}
+use Rattle.board.proofs.Recording.{linked_step, record_more, record_row}
 use Rattle.board.proofs.opening.record_below.Goals as goal
 
 pub loop-b-preserved : goal.loop-b-preserved
-loop-b-preserved g c = (
-  omega arith,
-  λ made simple inside free.
-      record_more (g.L.Links.graph c.args.links.now) simple c.args.a c.loop-b.from c.in-Some.b (c.in-Some.ensures made) (omega arith) inside
-      (c.loop-b.invariant.1 made simple inside free) c.link.ensures.changed,
-)
-
-pub returns-then-b-from : goal.returns-then-b-from
-returns-then-b-from g c = λ made simple inside free.
-    let next = c.in-Some.ensures made in
-    let past = next.past in
-    record_row (g.L.Links.graph c.args.links.now) simple c.args.a c.loop-b.from (λ j low high. next.before j low (omega arith)) (c.loop-b.invariant.1 made simple inside free)
+loop-b-preserved g c =
+    let links = c.args.links.now in
+    let so_far = c.loop-b.invariant in
+    let step = c.in-Some.ensures.steps in
+    let (over, on, next) = linked_step g.L.Links.made g.L.Links.graph links c.args.a c.args.a so_far.2 step in (
+      tt,
+      tt,
+      over,
+      λ made simple inside free.
+          subst (λ (n : ℕ). AllFree (links_before (g.L.Links.graph links) c.args.a n) c.link.new.self) (sym on)
+          (record_more (g.L.Links.graph links) simple c.args.a c.loop-b.b-iterator.from c.in-Some.b (next made) (omega (arith, step.within, so_far.2.end_is)) inside
+          (so_far.3 made simple inside free) c.link.ensures.changed),
+    )
 
 pub returns : goal.returns
 returns g c = λ made simple inside free.
-    record_row (g.L.Links.graph c.args.links.now) simple c.args.a c.loop-b.from (λ j low high. c.in_default.ensures made j low) (c.loop-b.invariant.1 made simple inside free)
+    let links = c.args.links.now in
+    let so_far = c.loop-b.invariant in
+    let (over, on, next) = linked_step g.L.Links.made g.L.Links.graph links c.args.a c.args.a so_far.2 c.in-None.ensures.steps in
+    record_row (g.L.Links.graph links) simple c.args.a c.loop-b.b-iterator.from (next made) (so_far.3 made simple inside free)

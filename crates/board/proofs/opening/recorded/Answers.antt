@@ -5,9 +5,6 @@ use Rattle.board.proofs.opening.recorded.Goals as goal
 pub loop-a-init : goal.loop-a-init
 loop-a-init g c = λ made simple _. record_none (g.L.Links.graph c.args.links.now) simple c.new-tables.ensures
 
-pub loop-a-preserved : goal.loop-a-preserved
-loop-a-preserved g c = λ made simple within. c.record_below.ensures made simple (omega (arith, within, c.loop-a-test.true)) (c.loop-a.invariant made simple within)
-
 pub returns : goal.returns
 returns g c = λ made simple e.
     let all : c.loop-a.a ≡ c.args.size = omega (arith, c.loop-a.auto.a-end, c.loop-a-test.false) in

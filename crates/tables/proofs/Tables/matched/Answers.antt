@@ -1,16 +1,14 @@
-use Rattle.std.proofs.Common.{◌≡◌, ℕ, subst, arith}
-use Rattle.graph.specs.Graph.{count}
-use Rattle.graph.specs.Pairs.{has_partner}
-use Rattle.graph.proofs.Counts.{count_le}
-use Rattle.tables.specs.Views.{partners_of, matched_of}
+use Rattle.std.proofs.Common.{◌≡◌, length, is_some, sym, ◌∙◌, rules, tests, arith}
+use Rattle.std.proofs.lemmas.Iterator.{YieldsList-from_slice}
+use Rattle.std.proofs.lemmas.Iterator.Consumers.{YieldsList-from_filter, count_from_yields_List}
+use Rattle.std.proofs.lemmas.List.Sums.{length-filter}
+use Rattle.tables.specs.declared.Record.{Record}
+use Rattle.tables.proofs.Matched.{matched_listed}
 use Rattle.tables.proofs.Tables.matched.Goals as goal
 
-pub overflow_add-matched : goal.overflow_add-matched
-overflow_add-matched c = omega (arith, c.loop-record.invariant, count_le c.loop-record.record-index (has_partner (partners_of c.args.self.now)), c.loop-record-test.true)
-
 pub returns : goal.returns
-unfolding matched_of
 returns c =
-    let P : ℕ → Type 0 = λ n. c.loop-record.matched ≡ count n (has_partner (partners_of c.args.self.now)) in
-    let end : c.loop-record.record-index ≡ 256 = omega arith in
-    subst P end c.loop-record.invariant
+    let t = c.args.self.now in
+    let whole : length t.records ≡ 256 = omega arith in
+    count_from_yields_List _ _ c.count.ensures.ran (YieldsList-from_filter _ (λ (r : Record). is_some r.partner) (YieldsList-from_slice t.records cc) c.filter.ensures.closure (λ x r q k. search (rules, tests)))
+    ∙ length-filter _ t.records ∙ sym (matched_listed t whole)

@@ -1,0 +1,41 @@
+// A walk over the free loads that a load is linked to.
+ghost use Rattle.std.specs.Prelude.{◌≡◌};
+ghost use Rattle.tables.specs.Views.{free_linked};
+ghost use Rattle.tables.specs.Walks.{OverFree};
+
+use crate::Tables;
+use links::walk::{Rising, Walk};
+
+// The free loads that a load is linked to.
+#[derive(Clone, Copy)]
+pub struct FreeLinked<'a> {
+    tables: &'a Tables,
+    load: usize,
+}
+
+impl Rising for FreeLinked<'_> {
+    ghost member = { λ s. free_linked s.tables.now s.load };
+
+    ghost reliable = { λ _. Unit {0} };
+
+    fn next_from(&self, from: usize) -> Option<usize> {
+        self.tables.next_free_linked(self.load, from)
+    }
+}
+
+impl Tables {
+    // A walk over the free loads that a is linked to.
+    pub fn free_loads(&self, a: usize) -> Walk<FreeLinked<'_>>
+        ensures over { OverFree self.now a result }
+        ensures begins { result.from ≡ 0 }
+    {
+        Walk::new(
+            FreeLinked {
+                tables: self,
+                load: a,
+            },
+            0,
+            256,
+        )
+    }
+}
