@@ -77,7 +77,7 @@ both_filters p q (x ∷ xs) =
       | false ↦ both_filters p q xs
     ]
 
-find_of_filter : {X : Type 0} (p q : X → Bool) (xs : List X) → find q (filter p xs) ≡ find (λ x. p x && q x) xs
+pub find_of_filter : {X : Type 0} (p q : X → Bool) (xs : List X) → find q (filter p xs) ≡ find (λ x. p x && q x) xs
 find_of_filter p q [] = refl
 find_of_filter p q (x ∷ xs) =
     elim (p x) as (λ b. find q (cond b (x ∷ filter p xs) (filter p xs)) ≡ cond (b && q x) (Some x) (find (λ y. p y && q y) xs)) [
