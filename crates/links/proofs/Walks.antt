@@ -49,15 +49,6 @@ YieldsList-from_walk {S} reliable member =
     subst (λ (u : Walk S). reliable u.set × (members (member s.set) s.from s.end ≡ x ∷ members (member u.set) u.from u.end)) (sym gives.after)
     (made, first_passes (member s.set) s.from (s.end - s.from) x (omega (arith, gives.within)) (gives.next made) ∙ ap (λ (n : ℕ). x ∷ filter (member s.set) (range_with_len (x + 1) n)) end))
 
--- what a walk gives, reliable or not, lies between its ends
-pub within_walk : {S : Type 0} (reliable : S → Type 0) (member : S → ℕ → Bool) (s : Walk S) (xs : List ℕ) (r : Option ℕ) (u : Walk S) → YieldsThen (Walks reliable member) s xs r u → IfSome r (λ x. (s.from ≤ x) × (x < s.end))
-within_walk {S} reliable member s [] r u (t, same, last) = subst (λ (w : Walk S). IfSome r (λ x. (w.from ≤ x) × (x < w.end))) (sym same) last.within
-within_walk {S} reliable member s (x ∷ xs) r u (t, (j, step, y), last) =
-    let from : j.from ≡ x + 1 = ap (λ (w : Walk S). w.from) step.after in
-    let end : j.end ≡ s.end = ap (λ (w : Walk S). w.end) step.after in
-    let past : s.from ≤ x = step.within.0 in
-    IfSome_then r (within_walk reliable member j xs r u (t, y, last)) (λ k h. (omega (arith, h), omega (arith, h)))
-
 -- the loads that are linked to a, from `from` on and below `end`
 pub YieldsList-from_linked_loads : {L : Type 0} (graph : L → Graph) (made : L → Type 0) (links : L) (a from end : ℕ) (w : Walk (LinkedTo L)) → Over links a end w → w.from ≡ from → made links
     → YieldsList (Walks (λ (s : LinkedTo L). made s.links.now) (λ s. (graph s.links.now).linked s.load)) (λ x. x) w (members ((graph links).linked a) from end)
