@@ -1,14 +1,25 @@
 -- The paths that begin at one load, from the steps that find them.
-use Rattle.std.proofs.Common.{◌≡◌, ℕ, ◌<◌, ◌≤◌, Bool, true, false, not, ◌&&◌, eqb, Some, None, Option, refl, ap, ◌∙◌, ⊎_elim}
-use Rattle.std.proofs.lemmas.Bool.{eqb-true, and_left, and_right, cases_lt}
+use Rattle.std.proofs.Common.{◌≡◌, ℕ, Bool, true, false, cond, not, ◌&&◌, eqb, Some, None, Option, sym, refl, ap, ◌∙◌}
+use Rattle.std.proofs.lemmas.Bool.{eqb-true, and_left, and_right}
 use Rattle.std.specs.Bool.{then_some}
 use Rattle.std.specs.Option.{option_map}
 use Rattle.graph.specs.Graph.{Graph, Simple}
 use Rattle.graph.specs.Matching.{Partners}
 use Rattle.audit.specs.Claims.{free, and_then}
-use Rattle.audit.specs.Steps.{NextBelow}
+use Rattle.audit.specs.Steps.{lowest_end, path_beyond}
 use Rattle.audit.specs.Verdicts.{lowest, free_link, path_of_one_at, ends, free_walk, path_over_at, path_of_three_at}
-use Rattle.audit.proofs.Lowest.{lowest_none, passing_none, passing_next}
+use Rattle.audit.proofs.Lowest.{lowest_none, passing_none, told_of_lowest}
+
+-- the tests of the ends, as the search for them makes them
+pub ends_tested : (g : Graph) (p : Partners) (a y : ℕ) → lowest g.size (λ z. then_some (g.linked y z && (not (eqb z a) && free p z)) z) ≡ lowest_end g p a y
+ends_tested g p a y = ap (λ (test : ℕ → Bool). lowest g.size (λ z. then_some (test z) z)) (λ i z. last (g.linked y z) (not (eqb z a)) (free p z) i)
+  where
+    last : (l e r : Bool) → (l && (e && r)) ≡ (l && r && e)
+    last false e r = refl
+    last true true true = refl
+    last true true false = refl
+    last true false true = refl
+    last true false false = refl
 
 -- ---- one link
 
@@ -26,46 +37,45 @@ same_ends true true true true on apart = apart refl
 same_ends true true true false on apart = refl
 same_ends false l r e on apart = cc
 
-pub one_step : (g : Graph) → Simple g → (p : Partners) (a : ℕ) → free p a ≡ true → (r : Option ℕ) (n : ℕ) → n ≡ g.size → NextBelow n (ends g p a a) 0 r → path_of_one_at g p a ≡ option_map (λ b. (a, b)) r
+pub one_step : (g : Graph) → Simple g → (p : Partners) (a : ℕ) → free p a ≡ true → option_map (λ b. (a, b)) (lowest_end g p a a) ≡ path_of_one_at g p a
 one_step g s p a on =
-    passing_next g.size (free_link g p a) (ends g p a a) (λ b. (a, b))
-    (λ b. same_ends (free p a) (g.linked a b) (free p b) (eqb b a) on (λ e. ap (g.linked a) (eqb-true b a e) ∙ s.loopless a))
+    sym (told_of_lowest g.size (ends g p a a) (λ b. (a, b)))
+    ∙ ap (λ (test : ℕ → Bool). lowest g.size (λ b. then_some (test b) (a, b)))
+    (λ i b. sym (same_ends (free p a) (g.linked a b) (free p b) (eqb b a) on (λ e. ap (g.linked a) (eqb-true b a e) ∙ s.loopless a)) i)
 
 -- ---- three links
 
-module _ (g : Graph) (p : Partners) (a x : ℕ) where
-  pub over_at : (o : Option ℕ) → p x ≡ o → path_over_at g p a x ≡ and_then o (λ y. lowest g.size (λ z. then_some (free_walk g p a x y z) (a, x, y, z)))
-  over_at o e = ap (λ (q : Option ℕ). and_then {A = ℕ × ℕ × ℕ × ℕ} q (λ y. lowest g.size (λ z. then_some (free_walk g p a x y z) (a, x, y, z)))) e
+pub over_at : (g : Graph) (p : Partners) (a x : ℕ) (o : Option ℕ) → p x ≡ o → path_over_at g p a x ≡ and_then o (λ y. lowest g.size (λ z. then_some (free_walk g p a x y z) (a, x, y, z)))
+over_at g p a x o e = ap (λ (q : Option ℕ). and_then {A = ℕ × ℕ × ℕ × ℕ} q (λ y. lowest g.size (λ z. then_some (free_walk g p a x y z) (a, x, y, z)))) e
 
-  -- no path leads from a load that is not free, or over a load that is not linked to it
-  over_off : (free p a && g.linked a x) ≡ false → path_over_at g p a x ≡ None
-  over_off off = at (p x) refl
-    where
-      at : (o : Option ℕ) → p x ≡ o → path_over_at g p a x ≡ None
-      at None e = over_at None e
-      at (Some y) e =
-          over_at (Some y) e
-          ∙ passing_none g.size (free_walk g p a x y) (λ z. (a, x, y, z)) (λ z _. and_left (free p a && g.linked a x) (ends g p a y z) off)
+-- the first path over the pair of x, from its end
+pub beyond_step : (g : Graph) (p : Partners) (a x : ℕ) → path_beyond g p a x ≡ and_then (p x) (λ y. option_map (λ z. (a, x, y, z)) (lowest_end g p a y))
+beyond_step g p a x = ap (λ (f : ℕ → Option (ℕ × ℕ × ℕ × ℕ)). and_then (p x) f) (λ i y. told_of_lowest g.size (ends g p a y) (λ z. (a, x, y, z)) i)
 
-  pub over_step : (y : ℕ) → free p a ≡ true → g.linked a x ≡ true → p x ≡ Some y → (r : Option ℕ) (n : ℕ) → n ≡ g.size → NextBelow n (ends g p a y) 0 r → path_over_at g p a x ≡ option_map (λ z. (a, x, y, z)) r
-  over_step y on link pair r n whole h =
-      over_at (Some y) pair
-      ∙ passing_next g.size (free_walk g p a x y) (ends g p a y) (λ z. (a, x, y, z))
-      (λ z. both_on (free p a) (g.linked a x) (ends g p a y z) on link)
-      r n whole h
-    where
-      both_on : (f l rest : Bool) → f ≡ true → l ≡ true → (f && l && rest) ≡ rest
-      both_on true true rest e d = refl
-      both_on true false rest e d = cc
-      both_on false l rest e d = cc
+-- no path leads from a load that is not free, or over a load that is not linked to it
+over_off : (g : Graph) (p : Partners) (a x : ℕ) → (free p a && g.linked a x) ≡ false → path_over_at g p a x ≡ None
+over_off g p a x off = at (p x) refl
+  where
+    at : (o : Option ℕ) → p x ≡ o → path_over_at g p a x ≡ None
+    at None e = over_at g p a x None e
+    at (Some y) e =
+        over_at g p a x (Some y) e
+        ∙ passing_none g.size (free_walk g p a x y) (λ z. (a, x, y, z)) (λ z _. and_left (free p a && g.linked a x) (ends g p a y z) off)
 
 pub three_taken : (g : Graph) (p : Partners) (a : ℕ) → free p a ≡ false → path_of_three_at g p a ≡ None
 three_taken g p a off = lowest_none g.size (path_over_at g p a) (λ x _. over_off g p a x (and_left (free p a) (g.linked a x) off))
 
--- the loads that a walk over the links of a passes, up to the next
-pub over_passed : (g : Graph) (p : Partners) (a from next : ℕ) → ((k : ℕ) → k < from → path_over_at g p a k ≡ None) → ((k : ℕ) → from ≤ k → k < next → g.linked a k ≡ false) → (k : ℕ) → k < next → path_over_at g p a k ≡ None
-over_passed g p a from next before off k l =
-    ⊎_elim
-    (λ m. before k m)
-    (λ m. over_off g p a k (and_right (free p a) (g.linked a k) (off k m l)))
-    (cases_lt k from)
+-- a path leads from a free load over the loads that are linked to it
+pub three_step : (g : Graph) (p : Partners) (a : ℕ) → free p a ≡ true → lowest g.size (λ x. cond (g.linked a x) (path_beyond g p a x) None) ≡ path_of_three_at g p a
+three_step g p a on = ap (lowest g.size) (λ i x. over x (g.linked a x) refl i)
+  where
+    both_on : (f l rest : Bool) → f ≡ true → l ≡ true → (f && l && rest) ≡ rest
+    both_on true true rest e d = refl
+    both_on true false rest e d = cc
+    both_on false l rest e d = cc
+
+    over : (x : ℕ) (b : Bool) → g.linked a x ≡ b → cond b (path_beyond g p a x) None ≡ path_over_at g p a x
+    over x true e =
+        ap (λ (f : ℕ → Option (ℕ × ℕ × ℕ × ℕ)). and_then (p x) f)
+        (λ i y. lowest g.size (λ z. then_some (sym (both_on (free p a) (g.linked a x) (ends g p a y z) on e) i) (a, x, y, z)))
+    over x false e = sym (over_off g p a x (and_right (free p a) (g.linked a x) e))

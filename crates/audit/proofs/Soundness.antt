@@ -1,6 +1,6 @@
 -- The verdict is sound exactly where the claims are a matching without augmenting paths of one or three links.
-use Rattle.std.proofs.Common.{◌≡◌, ℕ, ◌<◌, Bool, true, false, cond, List, [], ◌∷◌, length, get_or, Some, None, Ok, Option, sym, refl, ap, ◌∙◌, subst, ⊎_elim, arith}
-use Rattle.std.proofs.lemmas.Bool.{cases_lt, both_ways, eqb-true, eq-eqb, le-ltb}
+use Rattle.std.proofs.Common.{◌≡◌, ℕ, ◌<◌, Bool, true, cond, List, [], ◌∷◌, length, get_or, Some, None, Ok, Option, sym, refl, ap, ◌∙◌, subst, ⊎_elim, arith}
+use Rattle.std.proofs.lemmas.Bool.{cases_lt, both_ways, false_from_ne_true, eqb-true, eq-eqb, le-ltb}
 use Rattle.graph.specs.Graph.{Graph, Simple}
 use Rattle.graph.specs.Matching.{Partners, Matching, NoAugmenting, FreeLink, FreeWalk}
 use Rattle.graph.proofs.Paths.{of_one, of_three}
@@ -12,10 +12,6 @@ use Rattle.audit.specs.Verdicts.{meaning, lowest_not_returned, lowest_not_linked
 use Rattle.audit.proofs.Lowest.{lowest_none, none_below, passing_none, none_passing, failing_none, none_failing}
 use Rattle.audit.proofs.Paths.{over_at}
 use Rattle.audit.proofs.Shapes.{link_shape, shape_link, walk_shape, shape_walk}
-
-off_from : (b : Bool) → (b ≡ true → ⊥) → b ≡ false
-off_from true never = absurd (never refl)
-off_from false never = refl
 
 -- ---- the ladder
 
@@ -130,7 +126,7 @@ module _ (g : Graph) (s : Simple g) (cs : List ℕ) (whole : length cs ≡ g.siz
   one_clear never =
       lowest_none g.size (path_of_one_at g p) (λ a _.
       passing_none g.size (free_link g p a) (λ b. (a, b)) (λ b _.
-      off_from (free_link g p a b) (λ on. never (a ∷ b ∷ []) ((of_one g s p).path a b (link_shape g p a b on)))))
+      false_from_ne_true (free_link g p a b) (λ on. never (a ∷ b ∷ []) ((of_one g s p).path a b (link_shape g p a b on)))))
 
   three_clear : Matching g p → NoAugmenting g p 3 → lowest_path_of_three g p ≡ None
   three_clear m never = lowest_none g.size (path_of_three_at g p) (λ a _. lowest_none g.size (path_over_at g p a) (λ x _. at a x (p x) refl))
@@ -140,7 +136,7 @@ module _ (g : Graph) (s : Simple g) (cs : List ℕ) (whole : length cs ≡ g.siz
       at a x (Some y) e =
           over_at g p a x (Some y) e
           ∙ passing_none g.size (free_walk g p a x y) (λ z. (a, x, y, z)) (λ z _.
-          off_from (free_walk g p a x y z) (λ on. never (a ∷ x ∷ y ∷ z ∷ []) ((of_three g s p m).path a x y z (walk_shape g p a x y z e on))))
+          false_from_ne_true (free_walk g p a x y z) (λ on. never (a ∷ x ∷ y ∷ z ∷ []) ((of_three g s p m).path a x y z (walk_shape g p a x y z e on))))
 
   clear_from : SoundClaims g cs → verdict g p ≡ (0, [])
   clear_from h =

@@ -3,3 +3,4 @@ pub mod Verdicts
 pub mod Steps
 pub mod Soundness
 pub mod Example
+pub mod Words

@@ -28,9 +28,13 @@ lowest (suc n) answer = option_or (lowest n answer) (answer n)
 abbrev pub lowest_not_returned : ℕ → Partners → Option ℕ
 lowest_not_returned n p = lowest n (λ a. then_some (not (returned p a)) a)
 
+-- a is linked to its partner, if it has one
+abbrev pub is_linked : Graph → Partners → ℕ → Bool
+is_linked g p a = passes (p a) (g.linked a)
+
 -- a load that is not linked to its partner
 abbrev pub lowest_not_linked : Graph → Partners → Option ℕ
-lowest_not_linked g p = lowest g.size (λ a. then_some (not (passes (p a) (g.linked a))) a)
+lowest_not_linked g p = lowest g.size (λ a. then_some (not (is_linked g p a)) a)
 
 -- two free loads that are linked
 abbrev pub free_link : Graph → Partners → ℕ → ℕ → Bool

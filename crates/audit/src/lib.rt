@@ -1,15 +1,17 @@
 // The audit: whether claimed partners are a matching of the links, with no augmenting path of one or three links.
 #![tactic(auto)]
 
-ghost use Rattle.std.specs.Prelude.{◌≡◌, ◌<◌, ◌≤◌, true, length, IfSome};
-ghost use Rattle.audit.specs.Claims.{claimed, free as is_free, returned as is_returned};
+ghost use Rattle.std.specs.Prelude.{◌≡◌, length, Some};
+ghost use Rattle.audit.specs.Claims.{claimed, free, returned};
 ghost use Rattle.audit.specs.Example.{MiddleClaimed};
 ghost use Rattle.audit.specs.Soundness.{SoundWhen};
-ghost use Rattle.audit.specs.Steps.{NextBelow, Tells};
-ghost use Rattle.audit.specs.Verdicts.{lowest_not_returned, lowest_not_linked, path_of_one_at, lowest_path_of_one, ends, path_over_at, path_of_three_at, lowest_path_of_three, meaning, verdict, Audits};
+ghost use Rattle.audit.specs.Steps.{Tells, lowest_end, path_beyond};
+ghost use Rattle.audit.specs.Verdicts.{is_linked, lowest_not_returned, lowest_not_linked, path_of_one_at, lowest_path_of_one, path_of_three_at, lowest_path_of_three, meaning, verdict, Audits};
+ghost use Rattle.audit.specs.Words.{verdict_text};
 
 use links::walk::linked_loads;
 use links::{Layer, Links, Refusal, Refused};
+use std::fmt;
 
 // What an audit finds: the claims are sound, or the first fault.
 #[derive(Clone, Copy, PartialEq, Eq, Debug)]
@@ -25,169 +27,161 @@ pub enum Verdict {
     PathOfThree((usize, usize, usize, usize)),
 }
 
+impl fmt::Display for Verdict {
+    ghost output = { λ v. Some (verdict_text v) };
+
+    fn fmt<W: fmt::Write>(&self, f: &mut fmt::Formatter<W>) -> fmt::Result {
+        match *self {
+            Verdict::Sound => {
+                f.write_str("sound: no path of one or three links joins two free loads")
+            }
+            Verdict::NotReturned(a) => {
+                write!(
+                    f,
+                    "fault: load {a} claims a partner that does not claim it back"
+                )
+            }
+            Verdict::NotLinked(a) => {
+                write!(
+                    f,
+                    "fault: load {a} is not linked to the partner that it claims"
+                )
+            }
+            Verdict::PathOfOne(path) => {
+                let (a, b) = path;
+                write!(f, "fault: {a} and {b} are free, and linked")
+            }
+            Verdict::PathOfThree(path) => {
+                let (a, x, y, z) = path;
+                write!(
+                    f,
+                    "fault: {a} and {z} are free, and the path {a} {x} {y} {z} would pair both"
+                )
+            }
+        }
+    }
+}
+
 // The claim of a load that has no partner.
 const NO_PARTNER: u16 = 65535;
 
-// The partner that a load claims.
-fn partner_of(claims: &[u16], a: usize) -> Option<usize>
-    ensures { result ≡ claimed claims.now a }
-{
-    if a >= claims.len() || claims[a] == NO_PARTNER {
-        return None;
+// Links, and the partner that each load claims.
+#[derive(Drop)]
+struct Claimed<'a, L> {
+    links: &'a L,
+    claims: &'a [u16],
+}
+
+impl<L: Links> Claimed<'_, L> {
+    // The partner that a load claims.
+    fn partner_of(&self, a: usize) -> Option<usize>
+        ensures { result ≡ claimed self.now.claims.now a }
+    {
+        let claim = *self.claims.get(a)?;
+        (claim != NO_PARTNER).then_some(usize::from(claim))
     }
-    Some(claims[a] as usize)
-}
 
-fn is_free(claims: &[u16], a: usize) -> bool
-    ensures { result ≡ is_free (claimed claims.now) a }
-{
-    partner_of(claims, a).is_none()
-}
-
-// Whether the partner of a, if it has one, claims it back.
-fn is_returned(claims: &[u16], a: usize) -> bool
-    ensures { result ≡ is_returned (claimed claims.now) a }
-{
-    match partner_of(claims, a) {
-        Some(b) => match partner_of(claims, b) {
-            Some(back) => back == a,
-            None => false,
-        },
-        None => true,
+    fn is_free(&self, a: usize) -> bool
+        ensures { result ≡ free (claimed self.now.claims.now) a }
+    {
+        self.partner_of(a).is_none()
     }
-}
 
-fn first_not_returned(claims: &[u16]) -> Option<usize>
-    ensures { result ≡ lowest_not_returned (length claims.now) (claimed claims.now) }
-{
-    for a in 0..claims.len() {
-        if !is_returned(claims, a) {
-            return Some(a);
+    // Whether the partner of a, if it has one, claims it back.
+    fn is_returned(&self, a: usize) -> bool
+        ensures { result ≡ returned (claimed self.now.claims.now) a }
+    {
+        let Some(b) = self.partner_of(a) else {
+            return true;
+        };
+        self.partner_of(b) == Some(a)
+    }
+
+    // Whether a is linked to its partner, if it has one.
+    fn is_linked(&self, a: usize) -> bool
+        ensures { Tells L.Links.made L.Links.graph self.now (λ g p. is_linked g p a) result }
+    {
+        self.partner_of(a).is_none_or(|b| self.links.linked(a, b))
+    }
+
+    fn first_not_returned(&self) -> Option<usize>
+        ensures { result ≡ lowest_not_returned (length self.now.claims.now) (claimed self.now.claims.now) }
+    {
+        (0..self.claims.len()).find(|a| !self.is_returned(*a))
+    }
+
+    fn first_not_linked(&self) -> Option<usize>
+        ensures { Tells L.Links.made L.Links.graph self.now lowest_not_linked result }
+    {
+        (0..self.claims.len()).find(|a| !self.is_linked(*a))
+    }
+
+    // The smallest free load linked to y, other than a.
+    fn free_neighbour(&self, a: usize, y: usize) -> Option<usize>
+        ensures { Tells L.Links.made L.Links.graph self.now (λ g p. lowest_end g p a y) result }
+    {
+        linked_loads(self.links, y, self.claims.len()).find(|z| *z != a && self.is_free(*z))
+    }
+
+    // The first augmenting path of one link that begins at a.
+    fn path_of_one(&self, a: usize) -> Option<(usize, usize)>
+        ensures { Tells L.Links.made L.Links.graph self.now (λ g p. path_of_one_at g p a) result }
+    {
+        if !self.is_free(a) {
+            return None;
         }
+        let b = self.free_neighbour(a, a)?;
+        Some((a, b))
     }
-    None
-}
 
-fn first_not_linked<L: Links>(links: &L, claims: &[u16]) -> Option<usize>
-    ensures { Tells (L.Links.made links.now) (L.Links.graph links.now) claims.now lowest_not_linked result }
-{
-    for a in 0..claims.len() {
-        if let Some(b) = partner_of(claims, a)
-            && !links.linked(a, b)
-        {
-            return Some(a);
+    // The first path from a over the pair of x to a free load.
+    fn path_over(&self, a: usize, x: usize) -> Option<(usize, usize, usize, usize)>
+        ensures { Tells L.Links.made L.Links.graph self.now (λ g p. path_beyond g p a x) result }
+    {
+        let y = self.partner_of(x)?;
+        let z = self.free_neighbour(a, y)?;
+        Some((a, x, y, z))
+    }
+
+    // The first augmenting path of three links that begins at a.
+    fn path_of_three(&self, a: usize) -> Option<(usize, usize, usize, usize)>
+        ensures { Tells L.Links.made L.Links.graph self.now (λ g p. path_of_three_at g p a) result }
+    {
+        if !self.is_free(a) {
+            return None;
         }
+        linked_loads(self.links, a, self.claims.len()).find_map(|x| self.path_over(a, x))
     }
-    None
-}
 
-// The smallest load from `from` up to n that is linked to a.
-fn next_below<L: Links>(links: &L, n: usize, a: usize, from: usize) -> Option<usize>
-    ensures within { IfSome result (λ x. (from ≤ x) × (x < n)) }
-    ensures next { L.Links.made links.now → NextBelow n ((L.Links.graph links.now).linked a) from result }
-{
-    match links.next_linked(a, from) {
-        Some(x) if from <= x && x < n => Some(x),
-        _ => None,
+    fn first_path_of_one(&self) -> Option<(usize, usize)>
+        ensures { Tells L.Links.made L.Links.graph self.now lowest_path_of_one result }
+    {
+        (0..self.claims.len()).find_map(|a| self.path_of_one(a))
     }
-}
 
-// The smallest free load linked to y, other than a.
-fn free_neighbour<L: Links>(links: &L, claims: &[u16], a: usize, y: usize) -> Option<usize>
-    ensures { L.Links.made links.now → NextBelow (length claims.now) (ends (L.Links.graph links.now) (claimed claims.now) a y) 0 result }
-{
-    for z in linked_loads(links, y, claims.len()) {
-        if z != a && is_free(claims, z) {
-            return Some(z);
+    fn first_path_of_three(&self) -> Option<(usize, usize, usize, usize)>
+        ensures { Tells L.Links.made L.Links.graph self.now lowest_path_of_three result }
+    {
+        (0..self.claims.len()).find_map(|a| self.path_of_three(a))
+    }
+
+    // The verdict on one claim for each load.
+    fn verdict(&self) -> Verdict
+        ensures { Tells L.Links.made L.Links.graph self.now verdict (meaning result) }
+    {
+        if let Some(a) = self.first_not_returned() {
+            return Verdict::NotReturned(a);
         }
-    }
-    None
-}
-
-// The first augmenting path of one link that begins at a.
-fn path_of_one<L: Links>(links: &L, claims: &[u16], a: usize) -> Option<(usize, usize)>
-    ensures { Tells (L.Links.made links.now) (L.Links.graph links.now) claims.now (λ g p. path_of_one_at g p a) result }
-{
-    if !is_free(claims, a) {
-        return None;
-    }
-    let b = free_neighbour(links, claims, a, a)?;
-    Some((a, b))
-}
-
-// The first augmenting path from a free load a over the pair of x, which is linked to a.
-fn path_over<L: Links>(
-    links: &L,
-    claims: &[u16],
-    a: usize,
-    x: usize,
-) -> Option<(usize, usize, usize, usize)>
-    ensures { is_free (claimed claims.now) a ≡ true → (L.Links.graph links.now).linked a x ≡ true → Tells (L.Links.made links.now) (L.Links.graph links.now) claims.now (λ g p. path_over_at g p a x) result }
-{
-    let y = partner_of(claims, x)?;
-    let z = free_neighbour(links, claims, a, y)?;
-    Some((a, x, y, z))
-}
-
-// The first augmenting path of three links that begins at a.
-fn path_of_three<L: Links>(
-    links: &L,
-    claims: &[u16],
-    a: usize,
-) -> Option<(usize, usize, usize, usize)>
-    ensures { Tells (L.Links.made links.now) (L.Links.graph links.now) claims.now (λ g p. path_of_three_at g p a) result }
-{
-    if !is_free(claims, a) {
-        return None;
-    }
-    let mut from = 0;
-    while let Some(x) = next_below(links, claims.len(), a, from) {
-        if let Some(path) = path_over(links, claims, a, x) {
-            return Some(path);
+        if let Some(a) = self.first_not_linked() {
+            return Verdict::NotLinked(a);
         }
-        from = x + 1;
-    }
-    None
-}
-
-fn first_path_of_one<L: Links>(links: &L, claims: &[u16]) -> Option<(usize, usize)>
-    ensures { Tells (L.Links.made links.now) (L.Links.graph links.now) claims.now lowest_path_of_one result }
-{
-    for a in 0..claims.len() {
-        if let Some(path) = path_of_one(links, claims, a) {
-            return Some(path);
+        if let Some(path) = self.first_path_of_one() {
+            return Verdict::PathOfOne(path);
         }
-    }
-    None
-}
-
-fn first_path_of_three<L: Links>(links: &L, claims: &[u16]) -> Option<(usize, usize, usize, usize)>
-    ensures { Tells (L.Links.made links.now) (L.Links.graph links.now) claims.now lowest_path_of_three result }
-{
-    for a in 0..claims.len() {
-        if let Some(path) = path_of_three(links, claims, a) {
-            return Some(path);
+        match self.first_path_of_three() {
+            Some(path) => Verdict::PathOfThree(path),
+            None => Verdict::Sound,
         }
-    }
-    None
-}
-
-// The verdict on one claim for each load.
-fn judge<L: Links>(links: &L, claims: &[u16]) -> Verdict
-    ensures { Tells (L.Links.made links.now) (L.Links.graph links.now) claims.now verdict (meaning result) }
-{
-    if let Some(a) = first_not_returned(claims) {
-        return Verdict::NotReturned(a);
-    }
-    if let Some(a) = first_not_linked(links, claims) {
-        return Verdict::NotLinked(a);
-    }
-    if let Some(path) = first_path_of_one(links, claims) {
-        return Verdict::PathOfOne(path);
-    }
-    match first_path_of_three(links, claims) {
-        Some(path) => Verdict::PathOfThree(path),
-        None => Verdict::Sound,
     }
 }
 
@@ -199,7 +193,7 @@ pub fn audit<L: Links>(links: &L, claims: &[u16]) -> Result<Verdict, Refused>
     if claims.len() != links.size() {
         return Err(Refusal::WrongLength.by(Layer::Board));
     }
-    Ok(judge(links, claims))
+    Ok(Claimed { links, claims }.verdict())
 }
 
 // On a path of four loads of which only the middle two claim each other, the audit finds an augmenting path.

@@ -1,10 +1,8 @@
 -- What a filter leaves of a graph and of a ledger, and of a change to them.
 use Rattle.std.proofs.Common.{◌≡◌, ℕ, ◌%◌, ◌<◌, ◌≤◌, Bool, true, false, not, ◌&&◌, ◌||◌, eqb, ltb, List, get_or, sym, refl, ap, ◌∙◌, ap₂, ⊎_elim, arith}
-use Rattle.std.proofs.lemmas.Bool.{cond-true, cond-false, and_from, and_parts, and_left, and_right, eqb-true, lt-ltb, ltb-true, or_right, or_cases}
+use Rattle.std.proofs.lemmas.Bool.{and_parts, and_left, and_right, eqb-true, ltb-true, or_cases}
 use Rattle.graph.specs.Graph.{Graph, Simple, link_count, added, removed, is_pair}
-use Rattle.links.specs.Books.{Ledger, Bounded, by_book, adding, removing}
-use Rattle.links.specs.declared.refusal.Layer.TheVariants.{Book}
-use Rattle.links.proofs.Reasons.{TwoLoads, two_granted}
+use Rattle.links.specs.Books.{Ledger, Bounded, adding, removing}
 use Rattle.bits.specs.Bit.{bit}
 use Rattle.filter.specs.Classes.{class_of, bars_classes, hidden, filtered, filtered_ledger}
 use Rattle.filter.proofs.Monotone.{count_mono, total_mono}
@@ -64,17 +62,6 @@ module _ (hid : ℕ → ℕ → Bool) (g : Graph) where
         barred_below = λ a b e. ⊎_elim (bound.barred_below a b) (λ own. ltb-true a g.size (and_parts (ltb a g.size) _ own).0) (or_cases (l.barred a b) _ e);
         spare_below = bound.spare_below;
       }
-
--- ---- a change of a link that is hidden
-
-module _ (hid : ℕ → ℕ → Bool) (g : Graph) (a b : ℕ) (two : TwoLoads g.size a b) (unseen : hid a b ≡ true) where
-  pub adding_hidden : (l : Ledger) → adding (filtered hid g) (filtered_ledger hid g.size l) a b ≡ by_book 8
-  adding_hidden l =
-      two_granted Book g.size a b _ two
-      ∙ cond-true _ _ _ (or_right (l.barred a b) _ (and_from _ _ (lt-ltb a g.size two.a_below) (and_from _ _ (lt-ltb b g.size two.b_below) unseen)))
-
-  pub removing_hidden : removing (filtered hid g) a b ≡ by_book 7
-  removing_hidden = two_granted Book g.size a b _ two ∙ cond-false _ _ _ (and_right (g.linked a b) _ (ap not unseen))
 
 -- ---- a change of a link that is not hidden
 

@@ -1,4 +1,5 @@
 pub mod Table
 pub mod Monotone
+pub mod Totals
 pub mod Filtered
 pub mod Through

@@ -1,11 +1,9 @@
 -- A change of the book below, seen through a filter.
-use Rattle.std.proofs.Common.{◌≡◌, ℕ, Bool, false, IsErrAnd, Some, None, Ok, Err, Option, Result, ap, ◌∙◌, subst, ap₂}
+use Rattle.std.proofs.Common.{◌≡◌, ℕ, Bool, false, Ok, Err, Option, Result, ap, ◌∙◌, ap₂}
 use Rattle.graph.specs.Graph.{Graph}
-use Rattle.links.specs.declared.refusal.Layer.TheVariants.{Book}
 use Rattle.links.specs.declared.refusal.Refused.{Refused}
-use Rattle.links.specs.Books.{Ledger, Stands, Adds, Removes, unless_two_of}
-use Rattle.links.specs.Refusals.{Reason, told, Answers, Kept}
-use Rattle.links.proofs.Reasons.{TwoLoads, two_none, two_refused, refused_by}
+use Rattle.links.specs.Books.{Ledger, Stands, Adds, Removes}
+use Rattle.links.specs.Refusals.{Reason, Answers, Kept}
 use Rattle.filter.specs.declared.ClassFilter.{ClassFilter}
 use Rattle.filter.specs.Classes.{hidden, filtered, filtered_ledger, filter_graph, FilterMade, filter_ledger}
 use Rattle.filter.proofs.Filtered.{hidden_symmetric, adding_filtered, removing_filtered, filtered_added, filtered_removed}
@@ -13,14 +11,6 @@ use Rattle.filter.proofs.Filtered.{hidden_symmetric, adding_filtered, removing_f
 kept_map : {A S T : Type 0} (f : S → T) (r : Result A Refused) (s t : S) → Kept r s t → Kept r (f s) (f t)
 kept_map f (Ok x) s t k = tt
 kept_map f (Err e) s t k = ap f k
-
--- refused as by a `?`, since a and b are not two of n loads
-pub not_two : {A : Type 0} (size n a b : ℕ) (otherwise : Option Reason) (e : Refused) (r : Result A Refused) (Granted : A → Type 0) → size ≡ n → unless_two_of Book size a b None ≡ Some (told e) → IsErrAnd r (λ x. x ≡ e) → Answers (unless_two_of Book n a b otherwise) r Granted
-not_two size n a b otherwise e r Granted is-size why by =
-    refused_by _ e r Granted by (two_refused Book n a b otherwise _ (subst (λ (k : ℕ). unless_two_of Book k a b None ≡ Some (told e)) is-size why))
-
-pub are_two : (size n a b : ℕ) → size ≡ n → unless_two_of Book size a b None ≡ None → TwoLoads n a b
-are_two size n a b is-size none = subst (λ (k : ℕ). TwoLoads k a b) is-size (two_none Book size a b None none).0
 
 module _ {B : Type 0} (graph : B → Graph) (made : B → Type 0) (ledger : B → Ledger) (s : ClassFilter B) (t : B) (a b : ℕ) (r : Result Unit Refused) (seen : hidden s.classes s.bars a b ≡ false) where
   hid : ℕ → ℕ → Bool

@@ -1,7 +1,10 @@
 -- Classes of loads, and what barred pairs of classes leave of a graph and of a ledger.
-use Rattle.std.specs.Prelude.{◌≡◌, ℕ, ◌<◌, ◌≤◌, min, Bool, false, cond, not, ◌&&◌, ◌||◌, List, Option, MatchOption, nat_lt, slice_index}
-use Rattle.graph.specs.Graph.{Graph, First}
-use Rattle.links.specs.Books.{Ledger}
+use Rattle.std.specs.Prelude.{ℕ, min, Bool, cond, not, ◌&&◌, ◌||◌, List, Option, Some, None, nat_lt, slice_index}
+use Rattle.graph.specs.Graph.{Graph}
+use Rattle.links.specs.declared.refusal.Layer.TheVariants.{Book}
+use Rattle.links.specs.declared.refusal.Refusal.{Refusal}
+use Rattle.links.specs.Books.{Ledger, unless_two_of}
+use Rattle.links.specs.Refusals.{Reason, told}
 use Rattle.bits.specs.Bit.{bit}
 use Rattle.filter.specs.declared.ClassFilter.{ClassFilter}
 
@@ -37,8 +40,8 @@ FilterMade made f = made f.below
 abbrev pub filter_ledger : {B : Type 0} → (B → Graph) → (B → Ledger) → ClassFilter B → Ledger
 filter_ledger graph ledger f = filtered_ledger (hidden f.classes f.bars) (graph f.below).size (ledger f.below)
 
--- ---- a search with an end
+-- ---- a change of one link
 
--- the smallest number at or above `from` and below `end` that passes the test, if there is one
-abbrev pub NextBelow : (ℕ → Bool) → ℕ → ℕ → Option ℕ → Type 0
-NextBelow test from end r = MatchOption r ((j : ℕ) → from ≤ j → j < end → test j ≡ false) (λ k. First test from k)
+-- the first reason to refuse a change of the link of a and b before the book below is asked
+abbrev pub unless_visible : (ℕ → ℕ → Bool) → ℕ → ℕ → ℕ → Refusal → Option Reason
+unless_visible hid n a b refusal = unless_two_of Book n a b (cond (hid a b) (Some (told (record { refusal = refusal; layer = Book }))) None)

@@ -1,12 +1,14 @@
 // A link book seen through classes of loads.
 #![tactic(auto)]
 
-ghost use Rattle.std.specs.Prelude.{◌≡◌, ℕ, ◌<◌, ◌≤◌, IfSome, slice_index};
+ghost use Rattle.std.specs.Prelude.{◌≡◌, ℕ, ◌<◌, ◌≤◌, false, OnOk, slice_index};
 ghost use Rattle.graph.specs.Graph.{count};
 ghost use Rattle.links.specs.Books.{Stands};
-ghost use Rattle.filter.specs.Classes.{class_of, hidden, filtered, filtered_ledger, filter_graph, FilterMade, filter_ledger, NextBelow};
+ghost use Rattle.links.specs.Refusals.{Answers};
+ghost use Rattle.filter.specs.Classes.{class_of, hidden, filtered, filtered_ledger, filter_graph, FilterMade, filter_ledger, unless_visible};
 
 use bits::bit_of;
+use links::walk::{linked_loads, linked_loads_from};
 use links::{Book, Layer, Links, Refusal, Refused, check_two};
 
 // A book with classes given to its loads, and some pairs of classes barred: their links are hidden, and none is added.
@@ -35,20 +37,17 @@ impl<B> ClassFilter<B> {
         ensures value { result ≡ class_of self.now.classes a }
         ensures bound { result < 8 }
     {
-        if a >= 256 {
-            return 0;
-        }
-        let class = self.classes[a];
-        if class < 7 { class as usize } else { 7 }
+        usize::from(self.classes.get(a).copied().unwrap_or(0).min(7))
     }
 
     // Whether the classes of the two loads are barred.
+    #[tactic(auto, using(crate::proofs::Filtered::bars_read), unfolding(crate::specs::Classes::bars_classes))]
     fn hidden(&self, a: usize, b: usize) -> bool
         ensures { result ≡ hidden self.now.classes self.now.bars a b }
     {
         let i = self.class(a);
         let j = self.class(b);
-        bit_of(self.bars[i] as u64, j) || bit_of(self.bars[j] as u64, i)
+        bit_of(u64::from(self.bars[i]), j) || bit_of(u64::from(self.bars[j]), i)
     }
 }
 
@@ -67,39 +66,26 @@ impl<B: Book> ClassFilter<B> {
         }
     }
 
-    // The smallest load at or above `from` and below `end` that is linked to a by a link that is not hidden.
-    fn next_visible(&self, a: usize, from: usize, end: usize) -> Option<usize>
-        ensures bound { IfSome result (λ b. (from ≤ b) × (b < end)) }
-        ensures value { B.Links.made self.now.below → NextBelow ((filter_graph B.Links.graph self.now).linked a) from end result }
-    {
-        let mut at = from;
-        while at < end {
-            let Some(b) = self.below.next_linked(a, at) else {
-                return None;
-            };
-            if b < at || b >= end {
-                return None;
-            }
-            if !self.hidden(a, b) {
-                return Some(b);
-            }
-            at = b + 1;
-        }
-        None
-    }
-
     // How many loads below `end` are linked to a by links that are not hidden.
     fn count_visible(&self, a: usize, end: usize) -> usize
         ensures bound { result ≤ end }
         ensures value { B.Links.made self.now.below → result ≡ count end ((filter_graph B.Links.graph self.now).linked a) }
     {
-        let mut sum = 0;
-        let mut from = 0;
-        while let Some(b) = self.next_visible(a, from, end) {
-            sum += 1;
-            from = b + 1;
+        linked_loads(&self.below, a, end)
+            .filter(|b| !self.hidden(a, *b))
+            .count()
+    }
+
+    // Whether a and b are two loads, and their link is not hidden: if it is, that is refused.
+    fn check_visible(&self, a: usize, b: usize, refusal: Refusal) -> Result<(), Refused>
+        ensures seen { OnOk result (hidden self.now.classes self.now.bars a b ≡ false) }
+        ensures answers { B.Links.made self.now.below → Answers (unless_visible (hidden self.now.classes self.now.bars) (B.Links.graph self.now.below).size a b refusal) result (λ _. Unit {0}) }
+    {
+        check_two(self.below.size(), a, b, Layer::Book)?;
+        if self.hidden(a, b) {
+            return Err(refusal.by(Layer::Book));
         }
-        sum
+        Ok(())
     }
 }
 
@@ -121,17 +107,13 @@ impl<B: Book> Links for ClassFilter<B> {
     }
 
     fn next_linked(&self, a: usize, from: usize) -> Option<usize> {
-        self.next_visible(a, from, self.below.size())
+        linked_loads_from(&self.below, a, from, self.below.size()).find(|b| !self.hidden(a, *b))
     }
 
     // Each link is counted at its higher load.
     fn link_count(&self) -> usize {
         let size = self.below.size().min(256);
-        let mut sum = 0;
-        for a in 0..size {
-            sum += self.count_visible(a, a);
-        }
-        sum
+        (0..size).map(|a| self.count_visible(a, a)).sum()
     }
 }
 
@@ -156,18 +138,12 @@ impl<B: Book> Book for ClassFilter<B> {
     }
 
     fn add(&mut self, a: usize, b: usize) -> Result<(), Refused> {
-        check_two(self.below.size(), a, b, Layer::Book)?;
-        if self.hidden(a, b) {
-            return Err(Refusal::Barred.by(Layer::Book));
-        }
+        self.check_visible(a, b, Refusal::Barred)?;
         self.below.add(a, b)
     }
 
     fn remove(&mut self, a: usize, b: usize) -> Result<(), Refused> {
-        check_two(self.below.size(), a, b, Layer::Book)?;
-        if self.hidden(a, b) {
-            return Err(Refusal::NotLinked.by(Layer::Book));
-        }
+        self.check_visible(a, b, Refusal::NotLinked)?;
         self.below.remove(a, b)
     }
 }

@@ -1,8 +1,11 @@
 -- The first number below a bound that passes a test.
-use Rattle.std.proofs.Common.{◌≡◌, ℕ, zero, suc, ◌<◌, min, Bool, true, false, cond, ◌||◌, IfSome, Some, None, Option, sym, refl, ap, ◌∙◌, ⊎_elim, arith}
+use Rattle.std.proofs.Common.{◌≡◌, ℕ, zero, suc, ◌<◌, min, Bool, true, false, cond, ◌&&◌, ◌||◌, eqb, leb, List, [], ◌∷◌, length, get_or, fold, IfSome, MatchOption, Some, None, Option, sym, refl, ap, ◌∙◌, subst, ⊎_elim, arith}
 use Rattle.std.proofs.lemmas.Bool.{cases_eq, cases_lt, or_from, or_left, or_right}
+use Rattle.std.proofs.lemmas.Bool.Decides.{nat_tests}
+use Rattle.std.specs.List.{list_any, filter_map, cons_option, reduce, AllWithin, HoldsAt}
 use Rattle.graph.specs.Graph.{Next}
-use Rattle.link_list.specs.Entries.{lower_of, or_else, first}
+use Rattle.link_list.specs.declared.Entry.{Entry}
+use Rattle.link_list.specs.Entries.{joins, next_joined, lower_of, or_else, first}
 
 -- ---- the first that passes
 
@@ -107,3 +110,35 @@ next_either p q from (Some i) (Some j) f g =
       before = λ k u v. or_from (p k) (q k) (f.before k u (omega arith)) (g.before k u v);
     }))
     (cases_lt i j)
+
+-- ---- the lowest of several
+
+fold_min : (i j : ℕ) (ys : List ℕ) → fold min (min i j) ys ≡ min i (fold min j ys)
+fold_min i j [] = refl
+fold_min i j (y ∷ ys) = ap (λ (k : ℕ). fold min k ys) (omega arith) ∙ fold_min i (min j y) ys
+
+lowest_of_more : (o : Option ℕ) (ys : List ℕ) → reduce min (cons_option o ys) ≡ lower_of o (reduce min ys)
+lowest_of_more None ys = refl
+lowest_of_more (Some i) [] = refl
+lowest_of_more (Some i) (y ∷ ys) = ap Some (fold_min i y ys)
+
+module _ (x from : ℕ) where
+  next_of_one : (e : Entry) → Next (joins e x) from (next_joined e x from)
+  next_of_one e = by_tests (eqb e.a x && leb from e.b) refl (eqb e.b x && leb from e.a) refl
+    where
+      by_tests : (s : Bool) → (eqb e.a x && leb from e.b) ≡ s → (t : Bool) → (eqb e.b x && leb from e.a) ≡ t → Next (joins e x) from (cond s (Some e.b) (cond t (Some e.a) None))
+      by_tests true p t q = record { past = grind (arith, nat_tests); hit = grind (arith, nat_tests); before = λ j l m. grind (arith, nat_tests) }
+      by_tests false p true q = record { past = grind (arith, nat_tests); hit = grind (arith, nat_tests); before = λ j l m. grind (arith, nat_tests) }
+      by_tests false p false q = λ j l. grind (arith, nat_tests)
+
+  pub next_of_entries : (es : List Entry) → Next (λ y. list_any (λ e. joins e x y) es) from (reduce min (filter_map (λ e. next_joined e x from) es))
+  next_of_entries [] = λ k l. refl
+  next_of_entries (e ∷ es) =
+      subst (Next (λ y. joins e x y || list_any (λ f. joins f x y) es) from) (sym (lowest_of_more (next_joined e x from) (filter_map (λ f. next_joined f x from) es)))
+      (next_either (joins e x) (λ y. list_any (λ f. joins f x y) es) from _ _ (next_of_one e) (next_of_entries es))
+
+-- ---- the first in a list
+
+pub first_position : {X : Type 0} (d : X) (test : X → Bool) (xs : List X) (r : Option ℕ) → MatchOption r (AllWithin (λ x. test x ≡ false) xs 0 (length xs)) (λ i. (i < length xs) × HoldsAt (λ x. test x ≡ true) xs i × AllWithin (λ x. test x ≡ false) xs 0 i) → r ≡ first (length xs) (λ k. test (get_or xs k d))
+first_position d test xs None off = sym (first_none (length xs) (λ k. test (get_or xs k d)) (λ k l. off k d (omega arith) l))
+first_position d test xs (Some i) at = sym (first_some (length xs) (λ k. test (get_or xs k d)) i at.0 (at.1 d) (λ k l. at.2 k d (omega arith) l))

@@ -1,6 +1,10 @@
 -- The links of a sound list.
-use Rattle.std.proofs.Common.{◌≡◌, ℕ, zero, suc, ◌+◌, ◌<◌, ◌≤◌, Bool, true, false, cond, List, length, sym, refl, ap, ◌∙◌, subst, ⊎_elim, add-one, arith}
-use Rattle.std.proofs.lemmas.Bool.{cases_eq, both_ways, or_from, or_left, or_right, or_cases, and_parts, ltb-true}
+use Rattle.std.proofs.Common.{◌≡◌, ℕ, zero, suc, ◌+◌, ◌<◌, ◌≤◌, Bool, true, false, cond, ◌||◌, List, length, take, count_by, sym, refl, ap, ◌∙◌, ⊎_elim, add-one, arith}
+use Rattle.std.proofs.lemmas.Bool.{both_ways, or_from, or_right, or_cases, and_parts, ltb-true}
+use Rattle.std.proofs.lemmas.List.{take_all}
+use Rattle.std.proofs.lemmas.List.Folds.{list_any_more}
+use Rattle.std.proofs.lemmas.List.Sums.{sum_by_more, length-filter}
+use Rattle.std.specs.List.{list_any, filter}
 use Rattle.std.proofs.lemmas.Bool.Decides.{nat_tests}
 use Rattle.graph.specs.Graph.{Simple, count, link_count}
 use Rattle.graph.proofs.Counts.{OneMore, degree_more, link_count_more, link_count_none, count_none}
@@ -19,18 +23,16 @@ joined_symmetric : (es : List Entry) (k x y : ℕ) → joined es k x y ≡ joine
 joined_symmetric es zero x y = refl
 joined_symmetric es (suc k) x y = rw (joined_symmetric es k x y, joins_symmetric (entry_at es k) x y) refl
 
--- an entry before the m-th that is the link is found among the first m
-pub joined_hit : (es : List Entry) (k m x y : ℕ) → k < m → joins (entry_at es k) x y ≡ true → joined es m x y ≡ true
-joined_hit es k zero x y l on = absurd (omega arith)
-joined_hit es k (suc m) x y l on =
-    ⊎_elim
-    (λ e. or_right _ _ (subst (λ (i : ℕ). joins (entry_at es i) x y ≡ true) e on))
-    (λ ne. or_left _ _ (joined_hit es k m x y (omega (arith, ne)) on))
-    (cases_eq k m)
+-- the first k entries, as a list
+joined_is : (es : List Entry) (k x y : ℕ) → k ≤ length es → joined es k x y ≡ list_any (λ e. joins e x y) (take k es)
+joined_is es zero x y l = refl
+joined_is es (suc k) x y l =
+    ap (λ (b : Bool). b || joins (entry_at es k) x y) (joined_is es k x y (omega arith))
+    ∙ sym (list_any_more (λ e. joins e x y) es k (record { a = 0; b = 0 }) l)
+    ∙ ap (λ (i : ℕ). list_any (λ e. joins e x y) (take i es)) (add-one k)
 
--- one turn of a count
-pub count_step : (i c d : ℕ) (test : ℕ → Bool) (b : Bool) → b ≡ test i → d ≡ c + cond b 1 0 → c ≡ count i test → d ≡ count (i + 1) test
-count_step i c d test b e up so_far = rw (add-one i, sym e, sym so_far) up
+pub joined_all : (es : List Entry) (x y : ℕ) → joined es (length es) x y ≡ list_any (λ e. joins e x y) es
+joined_all es x y = joined_is es (length es) x y (omega arith) ∙ ap (list_any (λ e. joins e x y)) (take_all (length es) es (omega arith))
 
 module _ (n : ℕ) (es : List Entry) (sound : Sound n es) where
   rising : (k : ℕ) → k < length es → (entry_at es k).a < (entry_at es k).b
@@ -86,13 +88,21 @@ module _ (n : ℕ) (es : List Entry) (sound : Sound n es) where
         same = λ x y e. grind (arith, nat_tests);
       }
 
-  pub degree_is : (k : ℕ) → k ≤ length es → (x : ℕ) → count k (λ j. touches (entry_at es j) x) ≡ count n (joined es k x)
+  degree_is : (k : ℕ) → k ≤ length es → (x : ℕ) → count_by (λ e. touches e x) (take k es) ≡ count n (joined es k x)
   degree_is zero l x = sym (count_none n (joined es 0 x) (λ _ _. refl))
   degree_is (suc k) l x =
-      ap (λ (c : ℕ). c + cond (touches (entry_at es k) x) 1 0) (degree_is k (omega arith) x)
+      ap (λ (i : ℕ). count_by (λ e. touches e x) (take i es)) (sym (add-one k))
+      ∙ sum_by_more (λ e. cond (touches e x) 1 0) es k (record { a = 0; b = 0 }) l
+      ∙ ap (λ (c : ℕ). c + cond (touches (entry_at es k) x) 1 0) (degree_is k (omega arith) x)
       ∙ sym (degree_more n (joined es k) (joined es (suc k)) (entry_at es k).a (entry_at es k).b
       (omega (arith, rising k (omega arith), within k (omega arith))) (within k (omega arith)) (λ e. omega (arith, rising k (omega arith)))
       (one_more k (omega arith)) x)
+
+  pub degree_all : (x : ℕ) → length (filter (λ e. touches e x) es) ≡ count n (joined es (length es) x)
+  degree_all x =
+      length-filter (λ e. touches e x) es
+      ∙ ap (count_by (λ e. touches e x)) (sym (take_all (length es) es (omega arith)))
+      ∙ degree_is (length es) (omega arith) x
 
   pub link_count_is : (k : ℕ) → k ≤ length es → k ≡ link_count (record { size = n; linked = joined es k })
   link_count_is zero l = sym (link_count_none (record { size = n; linked = joined es 0 }) (λ _ _. refl))

@@ -1,5 +1,5 @@
 -- Entries, and the first one that breaks a rule.
-use Rattle.std.specs.Prelude.{ℕ, zero, suc, ◌-◌, min, Bool, cond, not, ◌&&◌, ◌||◌, List, Some, None, Option, ◌==◌, nat_lt, slice_index_or}
+use Rattle.std.specs.Prelude.{ℕ, zero, suc, ◌-◌, min, Bool, cond, not, ◌&&◌, ◌||◌, List, Some, None, Option, ◌==◌, nat_le, nat_lt, slice_index_or}
 use Rattle.graph.specs.Graph.{is_pair}
 use Rattle.link_list.specs.declared.Entry.{Entry}
 
@@ -14,6 +14,10 @@ in_bounds n e = nat_lt e.a e.b && nat_lt e.b n
 -- the entry is the link of x and y, in either order
 abbrev pub joins : Entry → ℕ → ℕ → Bool
 joins e x y = is_pair e.a e.b x y
+
+-- the load at or above `from` that the entry links to x
+abbrev pub next_joined : Entry → ℕ → ℕ → Option ℕ
+next_joined e x from = cond (e.a == x && nat_le from e.b) (Some e.b) (cond (e.b == x && nat_le from e.a) (Some e.a) None)
 
 -- the entry is a link of x
 abbrev pub touches : Entry → ℕ → Bool

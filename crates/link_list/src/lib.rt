@@ -2,9 +2,8 @@
 #![tactic(auto)]
 
 ghost use Rattle.std.specs.Prelude.{◌≡◌, length};
-ghost use Rattle.graph.specs.Graph.{Next};
 ghost use Rattle.links.specs.Refusals.{Answers};
-ghost use Rattle.link_list.specs.Entries.{in_bounds, joins, touches, lower_of, first, out_of_bounds};
+ghost use Rattle.link_list.specs.Entries.{in_bounds, joins, next_joined, touches, lower_of, first, out_of_bounds};
 ghost use Rattle.link_list.specs.Lists.{list_graph, ListMade, checking, Sound, Listing};
 
 use links::{Layer, Links, Refusal, Refused};
@@ -22,30 +21,30 @@ impl Entry {
     fn is_in_bounds(&self, size: usize) -> bool
         ensures { result ≡ in_bounds size self.now }
     {
-        self.a < self.b && (self.b as usize) < size
+        self.a < self.b && usize::from(self.b) < size
     }
 
     // Whether the entry is the link of x and y, in either order.
     fn joins(&self, x: usize, y: usize) -> bool
         ensures { result ≡ joins self.now x y }
     {
-        let a = self.a as usize;
-        let b = self.b as usize;
+        let a = usize::from(self.a);
+        let b = usize::from(self.b);
         (a == x && b == y) || (a == y && b == x)
     }
 
     fn touches(&self, x: usize) -> bool
         ensures { result ≡ touches self.now x }
     {
-        self.a as usize == x || self.b as usize == x
+        usize::from(self.a) == x || usize::from(self.b) == x
     }
 
     // The load at or above `from` that the entry links to x.
     fn linked_to(&self, x: usize, from: usize) -> Option<usize>
-        ensures { Next (joins self.now x) from result }
+        ensures { result ≡ next_joined self.now x from }
     {
-        let a = self.a as usize;
-        let b = self.b as usize;
+        let a = usize::from(self.a);
+        let b = usize::from(self.b);
         if a == x && b >= from {
             Some(b)
         } else if b == x && a >= from {
@@ -70,12 +69,7 @@ fn lower(x: Option<usize>, y: Option<usize>) -> Option<usize>
 fn first_out_of_bounds(size: usize, entries: &[Entry]) -> Option<usize>
     ensures { result ≡ first (length entries.now) (out_of_bounds size entries.now) }
 {
-    for (i, link) in entries.iter().enumerate() {
-        if !link.is_in_bounds(size) {
-            return Some(i);
-        }
-    }
-    None
+    entries.iter().position(|link| !link.is_in_bounds(size))
 }
 
 // The links of the loads below a size, as entries that rise strictly.
@@ -124,30 +118,18 @@ impl Links for LinkList<'_> {
     }
 
     fn linked(&self, a: usize, b: usize) -> bool {
-        for link in self.entries {
-            if link.joins(a, b) {
-                return true;
-            }
-        }
-        false
+        self.entries.iter().any(|link| link.joins(a, b))
     }
 
     fn degree(&self, a: usize) -> usize {
-        let mut count = 0;
-        for link in self.entries {
-            if link.touches(a) {
-                count += 1;
-            }
-        }
-        count
+        self.entries.iter().filter(|link| link.touches(a)).count()
     }
 
     fn next_linked(&self, a: usize, from: usize) -> Option<usize> {
-        let mut found = None;
-        for link in self.entries {
-            found = lower(found, link.linked_to(a, from));
-        }
-        found
+        self.entries
+            .iter()
+            .filter_map(|link| link.linked_to(a, from))
+            .min()
     }
 
     fn link_count(&self) -> usize {

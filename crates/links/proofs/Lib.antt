@@ -1,1 +1,3 @@
 pub mod Reasons
+pub mod Walks
+pub mod FindMap

@@ -75,5 +75,18 @@ pub fn linked_loads<L: Links>(links: &L, a: usize, end: usize) -> Walk<LinkedTo<
     ensures over { Over links.now a end result }
     ensures begins { result.from ≡ 0 }
 {
-    Walk::new(LinkedTo { links, load: a }, 0, end)
+    linked_loads_from(links, a, 0, end)
+}
+
+// The same, at or above `from`.
+pub fn linked_loads_from<L: Links>(
+    links: &L,
+    a: usize,
+    from: usize,
+    end: usize,
+) -> Walk<LinkedTo<'_, L>>
+    ensures over { Over links.now a end result }
+    ensures begins { result.from ≡ from }
+{
+    Walk::new(LinkedTo { links, load: a }, from, end)
 }

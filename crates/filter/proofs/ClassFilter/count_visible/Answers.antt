@@ -1,18 +1,14 @@
-use Rattle.std.proofs.Common.{ℕ, ◌+◌, sym, ap, ◌∙◌, arith}
-use Rattle.graph.proofs.Counts.{count_cut}
-use Rattle.filter.proofs.Monotone.{count_first}
+use Rattle.std.proofs.Common.{not, ◌∙◌, rules, tests}
+use Rattle.std.proofs.lemmas.Iterator.Consumers.{YieldsList-at, YieldsList-from_filter, count_from_yields_List}
+use Rattle.links.proofs.Walks.{YieldsList-from_linked_loads, count_from_members}
+use Rattle.filter.specs.Classes.{hidden}
 use Rattle.filter.proofs.ClassFilter.count_visible.Goals as goal
 
-pub loop-b-preserved : goal.loop-b-preserved
-loop-b-preserved g c = (
-  omega (arith, c.in-Some.ensures.bound),
-  omega (arith, c.in-Some.ensures.bound),
-  λ made. ap (λ (n : ℕ). n + 1) (c.loop-b.invariant.2 made) ∙ sym (count_first _ c.loop-b.from c.in-Some.b (c.in-Some.ensures.value made)),
-)
-
-pub returns : goal.returns
-returns g c =
-    record {
-      bound = omega arith;
-      value = λ made. c.loop-b.invariant.2 made ∙ sym (count_cut c.args.end c.loop-b.from _ c.loop-b.invariant.1 (c.in_default.ensures.value made));
-    }
+pub returns-clause-value : goal.returns-clause-value
+returns-clause-value g c = λ made.
+    let s = c.args.self.now in
+    count_from_yields_List c.filter.result _ c.count.ensures.ran
+    (YieldsList-from_filter _ (λ b. not (hidden s.classes s.bars c.args.a b))
+    (YieldsList-at c.filter.ensures.source (YieldsList-from_linked_loads g.B.Links.graph g.B.Links.made s.below c.args.a 0 c.args.end c.linked_loads.result c.linked_loads.ensures.over c.linked_loads.ensures.begins made))
+    c.filter.ensures.closure (λ x b q k. search (rules, tests)))
+    ∙ count_from_members ((g.B.Links.graph s.below).linked c.args.a) (λ b. not (hidden s.classes s.bars c.args.a b)) c.args.end

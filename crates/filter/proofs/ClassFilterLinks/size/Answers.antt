@@ -2,11 +2,7 @@ use Rattle.filter.specs.Classes.{hidden}
 use Rattle.filter.proofs.Filtered.{filtered_simple, hidden_symmetric}
 use Rattle.filter.proofs.ClassFilterLinks.size.Goals as goal
 
-pub returns : goal.returns
-returns g c =
-    record {
-      value = c.size.ensures.value;
-      simple = λ made.
-          filtered_simple (hidden c.args.self.now.classes c.args.self.now.bars) (g.B.Links.graph c.args.self.now.below)
-          (hidden_symmetric c.args.self.now.classes c.args.self.now.bars) (c.size.ensures.simple made);
-    }
+pub returns-clause-simple : goal.returns-clause-simple
+returns-clause-simple g c = λ made.
+    let s = c.args.self.now in
+    filtered_simple (hidden s.classes s.bars) (g.B.Links.graph s.below) (hidden_symmetric s.classes s.bars) (c.size.ensures.simple made)

@@ -10,7 +10,7 @@ returns-in-Some c =
     checking_is c.args.size c.args.entries.now _ _ (rise_found _ _ c.first_unordered.ensures.first) c.first_out_of_bounds.ensures
     (omega arith) (omega arith)
     ∙ ap bad_entry (sym c.in-Some.ensures)
-    ∙ ap (λ (r : Refused). Some (told r)) (sym c.by_book-in-Some.ensures)
+    ∙ ap (λ (r : Refused). Some (told r)) (sym c.by-in-Some.ensures)
 
 pub returns-in-None : goal.returns-in-None
 returns-in-None c = (

@@ -1,6 +1,5 @@
 use Rattle.std.proofs.Common.{refl}
-use Rattle.link_list.proofs.Checks.{sound_empty}
 use Rattle.link_list.proofs.LinkList.new.Goals as goal
 
-pub returns-in-Err : goal.returns-in-Err
-returns-in-Err c = record { made = sound_empty; listing = rw c.in-Err.ensures refl }
+pub returns-in-Err-clause-listing : goal.returns-in-Err-clause-listing
+returns-in-Err-clause-listing c = rw c.in-Err.ensures refl

@@ -1,12 +1,11 @@
-use Rattle.std.proofs.Common.{length, sym, add-one, arith}
-use Rattle.std.proofs.lemmas.Bool.{or_from}
-use Rattle.link_list.proofs.Joined.{joined_hit}
+use Rattle.std.proofs.Common.{sym, ◌∙◌, rules, tests}
+use Rattle.std.proofs.lemmas.Iterator.{YieldsList-from_slice}
+use Rattle.std.proofs.lemmas.Iterator.Search.{any_from_yields_List}
+use Rattle.link_list.specs.Entries.{joins}
+use Rattle.link_list.proofs.Joined.{joined_all}
 use Rattle.link_list.proofs.LinkListLinks.linked.Goals as goal
 
-pub returns-then-joins : goal.returns-then-joins
-returns-then-joins c =
-    λ made. sym (joined_hit c.args.self.now.entries.now c.loop-link.link-index (length c.args.self.now.entries.now) _ _
-    (omega arith) (sym c.if-joins.ensures))
-
-pub loop-link-preserved : goal.loop-link-preserved
-loop-link-preserved c = rw add-one (or_from _ _ c.loop-link.invariant (sym c.if-joins.ensures))
+pub returns : goal.returns
+returns c = λ made.
+    any_from_yields_List (λ e. joins e c.args.a c.args.b) _ _ _ c.any.ensures.ran (YieldsList-from_slice c.args.self.now.entries.now cc) (λ x b q k. search (rules, tests))
+    ∙ sym (joined_all c.args.self.now.entries.now c.args.a c.args.b)

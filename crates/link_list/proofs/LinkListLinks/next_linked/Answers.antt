@@ -1,17 +1,20 @@
-use Rattle.std.proofs.Common.{◌≡◌, ℕ, length, subst, add-one, arith}
+use Rattle.std.proofs.Common.{ℕ, Bool, length, min, sym, ◌∙◌, subst, rules, tests}
+use Rattle.std.proofs.lemmas.Iterator.{YieldsList-from_slice}
+use Rattle.std.proofs.lemmas.Iterator.Adapters.{option_map_id}
+use Rattle.std.proofs.lemmas.Iterator.Consumers.{YieldsList-from_filter_map, min_from_yields_List}
+use Rattle.std.specs.List.{filter_map, reduce}
 use Rattle.graph.specs.Graph.{Next}
+use Rattle.link_list.specs.Entries.{next_joined}
 use Rattle.link_list.specs.Lists.{joined}
-use Rattle.link_list.proofs.Firsts.{next_either}
+use Rattle.link_list.proofs.Firsts.{next_of_entries}
+use Rattle.link_list.proofs.Joined.{joined_all}
 use Rattle.link_list.proofs.LinkListLinks.next_linked.Goals as goal
-
-pub loop-link-preserved : goal.loop-link-preserved
-loop-link-preserved c =
-    rw (add-one, c.lower-found.ensures)
-    (next_either (joined c.args.self.now.entries.now c.loop-link.link-index c.args.a) _ c.args.from _ _
-    c.loop-link.invariant c.linked_to.ensures)
 
 pub returns : goal.returns
 returns c = λ made.
-    let all : c.loop-link.link-index ≡ length c.args.self.now.entries.now = omega arith in
-    subst (λ (k : ℕ). Next (joined c.args.self.now.entries.now k c.args.a) c.args.from c.loop-link.found) all
-    c.loop-link.invariant
+    let es = c.args.self.now.entries.now in
+    let found = sym (option_map_id c.min.result) ∙ min_from_yields_List c.filter_map.result c.min.result c.min.ensures.ran
+    (YieldsList-from_filter_map _ (λ e. next_joined e c.args.a c.args.from) (YieldsList-from_slice es cc) c.filter_map.ensures.closure (λ x r q k. search (rules, tests))) in
+    subst (Next (joined es (length es) c.args.a) c.args.from) (sym found)
+    (subst (λ (linked : ℕ → Bool). Next linked c.args.from (reduce min (filter_map (λ e. next_joined e c.args.a c.args.from) es))) (λ i y. sym (joined_all es c.args.a y) i)
+    (next_of_entries c.args.a c.args.from es))
