@@ -63,7 +63,7 @@ impl fmt::Display for Verdict {
 }
 
 // The claim of a load that has no partner.
-const NO_PARTNER: u16 = 65535;
+pub const NO_PARTNER: u16 = 65535;
 
 // Links, and the partner that each load claims.
 #[derive(Drop)]
