@@ -29,7 +29,7 @@ fn difference(a: i32, b: i32) -> u64
     ensures value { result ≡ unsigned_abs (a -ℤ b) }
     ensures bound { result < 2 ^ 32 }
 {
-    (i64::from(a) - i64::from(b)).abs() as u64
+    (i64::from(a) - i64::from(b)).unsigned_abs()
 }
 
 // The load with the smaller detour comes first, then the lower number.
