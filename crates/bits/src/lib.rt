@@ -1,9 +1,11 @@
-// Single bits of a word. A place is taken modulo 64, as a row of words has it: load b is bit b mod 64 of its word.
+// Single bits of a word, and words in a row as a set of numbers. A place is taken modulo 64, as a row of words has it: load b is
+// bit b mod 64 of its word.
 #![tactic(auto)]
 
-ghost use Rattle.std.specs.Prelude.{◌≡◌, ℕ, ◌%◌, ◌≤◌, not, ◌&&◌, ◌||◌, ◌==◌};
-ghost use Rattle.graph.specs.Graph.{count};
+ghost use Rattle.std.specs.Prelude.{◌≡◌, ℕ, ◌%◌, ◌≤◌, ◌<◌, ◌*◌, not, ◌&&◌, ◌||◌, ◌==◌, if◌then◌else◌, nat_eq, length, IfSome};
+ghost use Rattle.graph.specs.Graph.{count, Next};
 ghost use Rattle.bits.specs.Bit.{bit, NextBit};
+ghost use Rattle.bits.specs.Words.{member};
 
 // Whether the bit at `place` is 1.
 pub fn bit_of(word: u64, place: usize) -> bool
@@ -46,4 +48,32 @@ pub fn count_bits(word: u64) -> usize
     ensures bound { result ≤ 64 }
 {
     word.count_ones() as usize
+}
+
+// The word with the bit at `place` set to `on`.
+pub fn put_bit(word: u64, place: usize, on: bool) -> u64
+    ensures { (j : ℕ) → bit result j ≡ (if nat_eq (place % 64) j then on else bit word j) }
+{
+    if on {
+        with_bit(word, place)
+    } else {
+        without_bit(word, place)
+    }
+}
+
+// No row of words that is searched is longer.
+const LONGEST_ROW: usize = 1024;
+
+// The smallest member, at or above `from`, of the set that a row of words is.
+pub fn next_member(words: &[u64], from: usize) -> Option<usize>
+    ensures next { length words.now ≤ 1024 → Next (member words.now) from result }
+    ensures bound { IfSome result (λ b. b < 64 * length words.now) }
+{
+    for k in from / 64..words.len().min(LONGEST_ROW) {
+        // in the words after that of `from` the search begins at bit 0
+        if let Some(j) = next_bit(words[k], from.saturating_sub(64 * k)) {
+            return Some(64 * k + j);
+        }
+    }
+    None
 }

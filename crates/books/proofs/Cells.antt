@@ -39,7 +39,7 @@ made_simple m made =
 
 -- ---- the place of a row
 
-pub row_end : (n a : ℕ) → a < n → a * row_words n + row_words n ≤ all_words n
+row_end : (n a : ℕ) → a < n → a * row_words n + row_words n ≤ all_words n
 row_end n a l = let more : a + 1 ≤ n = omega arith in omega (arith, mul-le-mul_right (row_words n) more)
 
 pub length_row : (m : BitMatrix) → MatrixMade m → (a : ℕ) → a < m.size → length (matrix_row m.size m.words.now a) ≡ row_words m.size

@@ -1,12 +1,13 @@
 -- A bit matrix after the two bits of a link were written.
 use Rattle.std.proofs.Common.{◌≡◌, ℕ, ◌+◌, ◌-◌, ◌*◌, ◌%◌, ◌<◌, ◌≤◌, Bool, true, false, cond, not, ◌&&◌, ◌||◌, eqb, ltb, List, get_or, sym, refl, subst, ap, ◌∙◌, ap₂, ⊎_elim, arith}
 use mathlib.Core.Bool.{and_comm}
-use Rattle.std.proofs.lemmas.Bool.{cases_lt, ne_eqb, or_from, lt-ltb, le-ltb}
+use Rattle.std.proofs.lemmas.Bool.{cases_lt}
 use Rattle.graph.specs.Graph.{Graph, Simple, count, is_pair, added, removed, degree, link_count}
 use Rattle.graph.proofs.Counts.{count_lt, not_pair}
 use Rattle.graph.proofs.Ends.{pair_swap, pair_past}
-use Rattle.graph.proofs.Changes.{link_count_added, degree_added, link_count_removed, degree_removed}
+use Rattle.graph.proofs.Changes.{link_count_added, link_count_removed}
 use Rattle.links.specs.Books.{Stands, lowered, raised}
+use Rattle.links.proofs.Spares.{left_less, left_more}
 use Rattle.links.proofs.Reasons.{TwoLoads, Addable, Removable}
 use Rattle.bits.specs.Bit.{bit}
 use Rattle.books.specs.declared.bit_matrix.BitMatrix.{BitMatrix}
@@ -73,8 +74,7 @@ grown s t a b made can is w =
     (stands_after true s t.words.now a b made can.two w (added (matrix_graph s) a b).linked (s.tally.count + 1) _ _ (λ x y. or_cond (is_pair a b x y) _)
     (omega (arith, made.counted, link_count_added (matrix_graph s) a b simple can.two.apart can.two.a_below can.two.b_below can.off))
     (omega (arith, can.room))
-    (λ x. less_spare s.size (degree (matrix_graph s) x) (degree (added (matrix_graph s) a b) x) (ltb x s.size) (eqb a x || eqb b x)
-    (degree_added (matrix_graph s) a b simple can.two.apart can.two.a_below can.two.b_below can.off x))
+    (left_less (matrix_graph s) simple (s.size - 1) a b can.two can.off)
     (omega arith))
   where
     simple : Simple (matrix_graph s)
@@ -86,12 +86,6 @@ grown s t a b made can is w =
     or_cond false true = refl
     or_cond false false = refl
 
-    less_spare : (n d e : ℕ) (t c : Bool) → e ≡ d + cond c 1 0 → cond t (n - 1 - e) 0 ≡ cond t (n - 1 - d) 0 - cond c 1 0
-    less_spare n d e true true h = omega arith
-    less_spare n d e true false h = omega arith
-    less_spare n d e false true h = omega arith
-    less_spare n d e false false h = omega arith
-
 pub shrunk : (s t : BitMatrix) (a b : ℕ) → MatrixMade s → Removable (matrix_graph s) a b → t ≡ rewritten s (record { limit = s.tally.limit; count = s.tally.count - 1 }) t.words.now → Written false (is_link_place s.size a b) s.words.now t.words.now
     → Stands matrix_graph MatrixMade matrix_ledger t (removed (matrix_graph s) a b) (raised (matrix_ledger s) a b)
 shrunk s t a b made can is w =
@@ -99,7 +93,7 @@ shrunk s t a b made can is w =
     (stands_after false s t.words.now a b made can.two w (removed (matrix_graph s) a b).linked (s.tally.count - 1) _ _ (λ x y. and_cond (is_pair a b x y) _)
     (omega (arith, made.counted, one_fewer))
     (omega (arith, made.within))
-    spares
+    (left_more (matrix_graph s) simple (s.size - 1) a b can.two can.on (λ x l. omega (arith, count_lt s.size ((matrix_graph s).linked x) x l (simple.loopless x))))
     (omega (arith, made.counted, made.within, one_fewer)))
   where
     simple : Simple (matrix_graph s)
@@ -113,16 +107,3 @@ shrunk s t a b made can is w =
     and_cond true false = refl
     and_cond false true = refl
     and_cond false false = refl
-
-    more_spare : (n d e : ℕ) (c : Bool) → d ≡ e + cond c 1 0 → d < n → n - 1 - e ≡ (n - 1 - d) + cond c 1 0
-    more_spare n d e true h l = omega arith
-    more_spare n d e false h l = omega arith
-
-    spares : (x : ℕ) → cond (ltb x s.size) (s.size - 1 - degree (removed (matrix_graph s) a b) x) 0 ≡ (matrix_ledger s).spare x + cond (eqb a x || eqb b x) 1 0
-    spares x =
-        ⊎_elim
-        (λ u. rw (lt-ltb x s.size u) (more_spare s.size (degree (matrix_graph s) x) (degree (removed (matrix_graph s) a b) x) (eqb a x || eqb b x)
-        (degree_removed (matrix_graph s) a b simple can.two.apart can.two.a_below can.two.b_below can.on x)
-        (count_lt s.size ((matrix_graph s).linked x) x u (simple.loopless x))))
-        (λ u. rw (le-ltb x s.size u, or_from (eqb a x) (eqb b x) (ne_eqb a x (λ e. omega (arith, can.two.a_below))) (ne_eqb b x (λ e. omega (arith, can.two.b_below)))))
-        (cases_lt x s.size)

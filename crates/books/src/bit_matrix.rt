@@ -14,6 +14,7 @@ use links::{
 // With w = size / 64 rounded up, load b is bit b mod 64 of word a × w + b / 64, for each link in both directions.
 #[derive(Drop)]
 pub struct BitMatrix<'a> {
+    // narrow, so that no index of a word overflows
     size: u16,
     tally: Tally,
     words: &'a mut [u64],
@@ -49,6 +50,7 @@ impl<'a> BitMatrix<'a> {
             Ok(()) => {
                 let used = size * row_words(size);
                 words[0..used].fill(0);
+                // 256 at most, as checked
                 BitMatrix {
                     size: size as u16,
                     tally: Tally::new(limit),

@@ -1,6 +1,6 @@
 -- What holds where there is no reason to refuse.
-use Rattle.std.proofs.Common.{◌≡◌, ℕ, ◌<◌, Bool, true, false, cond, ◌||◌, eqb, leb, is_ok, IsErrAnd, Some, None, Ok, Err, Option, Result, sym, refl, ap, ◌∙◌, inl, inr, arith}
-use Rattle.std.proofs.lemmas.Bool.{both_ways, cases_Bool, cond-false, or_from, or_parts, lt-leb, leb-false, ne_eqb, eqb-false}
+use Rattle.std.proofs.Common.{◌≡◌, ℕ, ◌<◌, Bool, true, false, cond, ◌||◌, eqb, leb, IsErrAnd, Some, None, Ok, Err, Option, Result, sym, refl, ap, ◌∙◌, inl, inr, arith}
+use Rattle.std.proofs.lemmas.Bool.{cases_Bool, cond-false, or_from, or_parts, lt-leb, leb-false, ne_eqb, eqb-false}
 use Rattle.graph.specs.Graph.{Graph}
 use Rattle.links.specs.Books.{Ledger, unless_two_of, adding, removing}
 use Rattle.links.specs.Refusals.{Reason, told, Answers, Kept}
@@ -48,11 +48,6 @@ two_granted layer size a b o two =
 pub kept_same : {A S : Type 0} (r : Result A Refused) (s : S) → Kept r s s
 kept_same (Ok x) s = tt
 kept_same (Err e) s = refl
-
--- refused as by a `?` is not granted
-pub not_granted : {A : Type 0} (r : Result A Refused) (P : Refused → Type 0) → IsErrAnd r P → is_ok r ≡ true → ⊥
-not_granted (Ok x) P by ok = by
-not_granted (Err e) P by ok = both_ways false refl ok
 
 -- refused for the reason of e, as by a `?`
 pub refused_by : {A : Type 0} (o : Option Reason) (e : Refused) (r : Result A Refused) (Granted : A → Type 0) → IsErrAnd r (λ x. x ≡ e) → o ≡ Some (told e) → Answers o r Granted

@@ -1,12 +1,14 @@
 -- A book in rows with a link more or less.
 use Rattle.std.proofs.Common.{◌≡◌, ℕ, ◌+◌, ◌-◌, ◌*◌, ◌<◌, ◌≤◌, Bool, true, false, cond, not, ◌&&◌, ◌||◌, eqb, ltb, List, [], length, get_or, sym, refl, ap, ◌∙◌, subst, ap₂, ⊎_elim, arith}
 use mathlib.Core.Bool.{or-false, and-true}
-use Rattle.std.proofs.lemmas.Bool.{cases_lt, cases_eq, lt-ltb, le-ltb, cond-true, eq-eqb, ne_eqb, or_from, or_right, and_right}
-use Rattle.graph.specs.Graph.{Graph, is_pair, added, removed, link_count}
-use Rattle.graph.proofs.Counts.{OneMore, not_pair, link_count_more}
-use Rattle.graph.proofs.Ends.{pair_here, pair_back, pair_swap, pair_past}
+use Rattle.std.proofs.lemmas.Bool.{cases_lt, cases_eq, lt-ltb, le-ltb, eq-eqb, ne_eqb, and_right}
+use Rattle.graph.specs.Graph.{Graph, Simple, is_pair, added, removed, link_count}
+use Rattle.graph.proofs.Counts.{not_pair}
+use Rattle.graph.proofs.Changes.{link_count_added, link_count_removed}
+use Rattle.graph.proofs.Ends.{pair_swap, pair_past}
 use Rattle.links.specs.Books.{Ledger, lowered, raised}
-use Rattle.links.proofs.Reasons.{Addable, Removable as Unlinkable}
+use Rattle.links.proofs.Spares.{left, left_less, left_more}
+use Rattle.links.proofs.Reasons.{TwoLoads, Addable, Removable as Unlinkable}
 use Rattle.row.specs.Row.{entries, has, row_with, Removable, row_without, changed, RowMade}
 use Rattle.row.specs.Memory.{loads_of_row, row_of, with_row, both_changed, BothAble}
 use Rattle.row.specs.declared.Change.{Change}
@@ -14,7 +16,7 @@ use Rattle.row.specs.declared.Change.TheVariants.{Insert, Remove}
 use Rattle.rows.specs.Rows.{graph_of, ledger_of, RowsMade}
 use Rattle.row.proofs.Memory.{TwoRows, two_rows, row_end}
 use Rattle.row.proofs.RowLaws.{RowAfter, put, cut, insertable, with_load, removable, without_load}
-use Rattle.rows.proofs.BookLaws.{loads_in, long_row, linked_is}
+use Rattle.rows.proofs.BookLaws.{loads_in, long_row, linked_is, simple, spare_is, degree_within}
 
 -- ---- two loads among all
 
@@ -64,9 +66,6 @@ module _ (n d limit total : ℕ) (memory : List ℕ) (made : RowsMade n d limit 
         (λ l. rw (le-ltb y n l, pair_past n a b x y la lb l) (sym (unmoved false)))
         (cases_lt y n)
 
-    pub same_after : (x y : ℕ) → is_pair a b x y ≡ false → (graph_of n d (with_row d (with_row d memory a r) b s)).linked x y ≡ (graph_of n d memory).linked x y
-    same_after x y e = linked_after x y ∙ ap (λ (t : Bool). change t ((graph_of n d memory).linked x y)) e ∙ unmoved ((graph_of n d memory).linked x y)
-
     pub made_after : (k : ℕ) → k ≡ link_count (graph_of n d (with_row d (with_row d memory a r) b s)) → k ≤ limit → RowsMade n d limit k (with_row d (with_row d memory a r) b s)
     made_after k counted within =
         record {
@@ -82,13 +81,6 @@ module _ (n d limit total : ℕ) (memory : List ℕ) (made : RowsMade n d limit 
           within = within;
         }
 
-    pub spare_after : (f : ℕ → ℕ) → d - get_or r 0 0 ≡ f a → d - get_or s 0 0 ≡ f b → ((x : ℕ) → (x ≡ a → ⊥) → (x ≡ b → ⊥) → cond (ltb x n) (d - get_or (row_of d memory x) 0 0) 0 ≡ f x) → (x : ℕ) → cond (ltb x n) (d - get_or (row_of d (with_row d (with_row d memory a r) b s) x) 0 0) 0 ≡ f x
-    spare_after f here back others =
-        by_pair a b (λ x. cond (ltb x n) (d - get_or (row_of d (with_row d (with_row d memory a r) b s) x) 0 0) 0 ≡ f x)
-        (cond-true _ _ _ (lt-ltb a n la) ∙ ap (λ (row : List ℕ). d - get_or row 0 0) two.first ∙ here)
-        (cond-true _ _ _ (lt-ltb b n lb) ∙ ap (λ (row : List ℕ). d - get_or row 0 0) two.second ∙ back)
-        (λ x na nb. ap (λ (row : List ℕ). cond (ltb x n) (d - get_or row 0 0) 0) (two.others x na nb) ∙ others x na nb)
-
 -- ---- a link more or less
 
 -- the change of rows a and b can be made, and the book with k links is then made, and stands for this graph and this ledger
@@ -98,15 +90,18 @@ pub record BookAfter (change : Change) (n d limit k : ℕ) (memory : List ℕ) (
   pub ledger : ledger_of n d limit k (both_changed (changed change) d memory a b) ≡ l
   pub made : RowsMade n d limit k (both_changed (changed change) d memory a b)
 
-neither : (a b x : ℕ) → (x ≡ a → ⊥) → (x ≡ b → ⊥) → (eqb a x || eqb b x) ≡ false
-neither a b x na nb = or_from (eqb a x) (eqb b x) (ne_eqb a x (λ e. na (sym e))) (ne_eqb b x (λ e. nb (sym e)))
-
 module _ (n d limit total : ℕ) (memory : List ℕ) (made : RowsMade n d limit total memory) (a b : ℕ) (la : a < n) (lb : b < n) (ne : a ≡ b → ⊥) where
   linked_a : (graph_of n d memory).linked a b ≡ has (entries (row_of d memory a)) b
   linked_a = linked_is n d limit total memory made a b ∙ ap (λ (xs : List ℕ). has xs b) (loads_in n d memory a la)
 
   linked_b : (graph_of n d memory).linked a b ≡ has (entries (row_of d memory b)) a
   linked_b = made.symmetric a b ∙ linked_is n d limit total memory made b a ∙ ap (λ (xs : List ℕ). has xs a) (loads_in n d memory b lb)
+
+  links : Simple (graph_of n d memory)
+  links = simple n d limit total memory made
+
+  two_loads : TwoLoads n a b
+  two_loads = record { a_below = la; b_below = lb; apart = ne }
 
   long_a : length (row_of d memory a) ≡ d + 1
   long_a = long_row n d limit total memory made a la
@@ -135,35 +130,29 @@ module _ (n d limit total : ℕ) (memory : List ℕ) (made : RowsMade n d limit 
     linked_more : (x y : ℕ) → (graph_of n d (both_changed row_with d memory a b)).linked x y ≡ ((graph_of n d memory).linked x y || is_pair a b x y)
     linked_more = linked_after n d limit total memory made a b la lb ne put or-false _ _ with_a with_b
 
-    one_more : OneMore (graph_of n d memory).linked (graph_of n d (both_changed row_with d memory a b)).linked a b
-    one_more =
-        record {
-          off = off;
-          off_back = made.symmetric b a ∙ off;
-          on = linked_more a b ∙ or_right _ _ (pair_here a b);
-          on_back = linked_more b a ∙ or_right _ _ (pair_back a b);
-          same = same_after n d limit total memory made a b la lb ne put or-false _ _ with_a with_b;
-        }
-
-    spare_less : (x : ℕ) → cond (ltb x n) (d - get_or (row_of d (both_changed row_with d memory a b) x) 0 0) 0 ≡ cond (ltb x n) (d - get_or (row_of d memory x) 0 0) 0 - cond (eqb a x || eqb b x) 1 0
-    spare_less =
-        spare_after n d limit total memory made a b la lb ne put or-false _ _ with_a with_b
-        (λ x. cond (ltb x n) (d - get_or (row_of d memory x) 0 0) 0 - cond (eqb a x || eqb b x) 1 0)
-        (rw (lt-ltb a n la, eq-eqb a a refl) (omega arith))
-        (rw (lt-ltb b n lb, or_right (eqb a b) (eqb b b) (eq-eqb b b refl)) (omega arith))
-        (λ x na nb. rw (neither a b x na nb) (omega arith))
-
     grown : total < limit → BookAfter Insert n d limit (total + 1) memory a b (added (graph_of n d memory) a b) (lowered (ledger_of n d limit total memory) a b)
     grown room =
         record {
           able = both_insertable;
-          graph = λ i. record { size = n; linked = λ x y. linked_more x y i };
+          graph = same;
           ledger = λ i. record { limit = limit; barred = λ _ _. false; spare = λ x. spare_less x i; room = room_less limit total i };
-          made = made_after n d limit total memory made a b la lb ne put or-false _ _ with_a with_b (total + 1)
-              (omega (arith, made.counted, link_count_more n (graph_of n d memory).linked (graph_of n d (both_changed row_with d memory a b)).linked a b la lb ne one_more))
-              (omega arith);
+          made = after;
         }
       where
+        same : graph_of n d (both_changed row_with d memory a b) ≡ added (graph_of n d memory) a b
+        same = λ i. record { size = n; linked = λ x y. linked_more x y i }
+
+        after : RowsMade n d limit (total + 1) (both_changed row_with d memory a b)
+        after =
+            made_after n d limit total memory made a b la lb ne put or-false _ _ with_a with_b (total + 1)
+            (omega (arith, made.counted, ap link_count same, link_count_added (graph_of n d memory) a b links ne la lb off)) (omega arith)
+
+        spare_less : (x : ℕ) → cond (ltb x n) (d - get_or (row_of d (both_changed row_with d memory a b) x) 0 0) 0 ≡ cond (ltb x n) (d - get_or (row_of d memory x) 0 0) 0 - cond (eqb a x || eqb b x) 1 0
+        spare_less x =
+            spare_is n d limit (total + 1) _ after x ∙ ap (λ (g : Graph). left g d x) same
+            ∙ left_less (graph_of n d memory) links d a b two_loads off x
+            ∙ sym (ap (λ (s : ℕ). s - cond (eqb a x || eqb b x) 1 0) (spare_is n d limit total memory made x))
+
         room_less : (l k : ℕ) → l - (k + 1) ≡ l - k - 1
         room_less l k = omega arith
 
@@ -183,39 +172,34 @@ module _ (n d limit total : ℕ) (memory : List ℕ) (made : RowsMade n d limit 
     linked_less : (x y : ℕ) → (graph_of n d (both_changed row_without d memory a b)).linked x y ≡ ((graph_of n d memory).linked x y && not (is_pair a b x y))
     linked_less = linked_after n d limit total memory made a b la lb ne cut and-true _ _ without_a without_b
 
-    one_less : OneMore (graph_of n d (both_changed row_without d memory a b)).linked (graph_of n d memory).linked a b
-    one_less =
-        record {
-          off = linked_less a b ∙ and_right _ _ (ap not (pair_here a b));
-          off_back = linked_less b a ∙ and_right _ _ (ap not (pair_back a b));
-          on = on;
-          on_back = made.symmetric b a ∙ on;
-          same = λ x y e. sym (same_after n d limit total memory made a b la lb ne cut and-true _ _ without_a without_b x y e);
-        }
-
-    spare_more : (x : ℕ) → cond (ltb x n) (d - get_or (row_of d (both_changed row_without d memory a b) x) 0 0) 0 ≡ cond (ltb x n) (d - get_or (row_of d memory x) 0 0) 0 + cond (eqb a x || eqb b x) 1 0
-    spare_more =
-        spare_after n d limit total memory made a b la lb ne cut and-true _ _ without_a without_b
-        (λ x. cond (ltb x n) (d - get_or (row_of d memory x) 0 0) 0 + cond (eqb a x || eqb b x) 1 0)
-        (rw (lt-ltb a n la, eq-eqb a a refl) (omega (arith, (made.rows a la).within, removable_a.1)))
-        (rw (lt-ltb b n lb, or_right (eqb a b) (eqb b b) (eq-eqb b b refl)) (omega (arith, (made.rows b lb).within, removable_b.1)))
-        (λ x na nb. rw (neither a b x na nb) (omega arith))
-
-    one_fewer : total ≡ link_count (graph_of n d (both_changed row_without d memory a b)) + 1
-    one_fewer = made.counted ∙ link_count_more n (graph_of n d (both_changed row_without d memory a b)).linked (graph_of n d memory).linked a b la lb ne one_less
-
     shrunk : BookAfter Remove n d limit (total - 1) memory a b (removed (graph_of n d memory) a b) (raised (ledger_of n d limit total memory) a b)
     shrunk =
         record {
           able = record { long = made.long; a_below = la; b_below = lb; apart = ne; able_a = removable_a; able_b = removable_b };
-          graph = λ i. record { size = n; linked = λ x y. linked_less x y i };
-          ledger = λ i. record { limit = limit; barred = λ _ _. false; spare = λ x. spare_more x i; room = room_more limit total _ one_fewer made.within i };
-          made = made_after n d limit total memory made a b la lb ne cut and-true _ _ without_a without_b (total - 1)
-              (omega (arith, one_fewer)) (omega (arith, made.within));
+          graph = same;
+          ledger = λ i. record { limit = limit; barred = λ _ _. false; spare = λ x. spare_more x i; room = room_more i };
+          made = after;
         }
       where
-        room_more : (l m k : ℕ) → m ≡ k + 1 → m ≤ l → l - (m - 1) ≡ l - m + 1
-        room_more l m k e u = omega arith
+        same : graph_of n d (both_changed row_without d memory a b) ≡ removed (graph_of n d memory) a b
+        same = λ i. record { size = n; linked = λ x y. linked_less x y i }
+
+        one_fewer : total ≡ link_count (graph_of n d (both_changed row_without d memory a b)) + 1
+        one_fewer = omega (arith, made.counted, ap link_count same, link_count_removed (graph_of n d memory) a b links ne la lb on)
+
+        after : RowsMade n d limit (total - 1) (both_changed row_without d memory a b)
+        after =
+            made_after n d limit total memory made a b la lb ne cut and-true _ _ without_a without_b (total - 1)
+            (omega (arith, one_fewer)) (omega (arith, made.within))
+
+        spare_more : (x : ℕ) → cond (ltb x n) (d - get_or (row_of d (both_changed row_without d memory a b) x) 0 0) 0 ≡ cond (ltb x n) (d - get_or (row_of d memory x) 0 0) 0 + cond (eqb a x || eqb b x) 1 0
+        spare_more x =
+            spare_is n d limit (total - 1) _ after x ∙ ap (λ (g : Graph). left g d x) same
+            ∙ left_more (graph_of n d memory) links d a b two_loads on (degree_within n d limit total memory made) x
+            ∙ sym (ap (λ (s : ℕ). s + cond (eqb a x || eqb b x) 1 0) (spare_is n d limit total memory made x))
+
+        room_more : limit - (total - 1) ≡ limit - total + 1
+        room_more = omega (arith, one_fewer, made.within)
 
 -- ---- where there is no reason to refuse
 

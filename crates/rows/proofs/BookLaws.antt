@@ -4,10 +4,9 @@ use Rattle.std.proofs.lemmas.Nat.{mul-add-lt}
 use Rattle.std.proofs.lemmas.List.{get_or_append_left, get_or-append_right, get_or-replicate, get_or-drop, length-replicate, length-append, length-drop}
 use Rattle.std.proofs.lemmas.Bool.{cases_lt, lt-ltb, le-ltb, cond-true, cond-false, and_right, both_ways}
 use Rattle.std.proofs.lemmas.Bool.Decides.{nat_tests}
-use Rattle.rise.specs.Rise.{Rises, FirstUnordered}
 use Rattle.graph.specs.Graph.{Simple, degree, First, Next}
 use Rattle.graph.proofs.Counts.{link_count_none, count_ext}
-use Rattle.links.specs.Books.{Bounded}
+use Rattle.links.proofs.Spares.{left}
 use Rattle.links.specs.Refusals.{Reason}
 use Rattle.row.specs.Row.{entries, has, place, RowMade}
 use Rattle.links.specs.Memory.{Cleared}
@@ -174,15 +173,16 @@ module _ (n d limit total : ℕ) (memory : List ℕ) (made : RowsMade n d limit 
         below = λ a b on. below b a (sym (linked_is b a) ∙ made.symmetric b a ∙ on);
       }
 
-  pub bounded : Bounded (graph_of n d memory) (ledger_of n d limit total memory)
-  bounded =
-      record {
-        limit_bound = made.limit_bound;
-        within = omega (arith, made.within, made.counted);
-        barred_symmetric = λ _ _. refl;
-        barred_below = λ _ _ on. absurd (both_ways false refl on);
-        spare_below = λ a l. cond-false _ _ _ (le-ltb a n l);
-      }
+  -- the spare of a load is what its degree leaves of the row limit
+  pub spare_is : (a : ℕ) → cond (ltb a n) (d - get_or (row_of d memory a) 0 0) 0 ≡ left (graph_of n d memory) d a
+  spare_is a =
+      ⊎_elim
+      (λ l. rw (lt-ltb a n l) (omega (arith, degree_is a, length_loads a l)))
+      (λ l. rw (le-ltb a n l))
+      (cases_lt a n)
+
+  pub degree_within : (a : ℕ) → a < n → degree (graph_of n d memory) a ≤ d
+  degree_within a l = omega (arith, degree_is a, length_loads a l, (made.rows a l).within)
 
   -- ---- a search in row a, which holds `row`: k is the place of b
 
@@ -220,11 +220,3 @@ module _ (n d limit total : ℕ) (memory : List ℕ) (made : RowsMade n d limit 
         (λ l. rw (lt-ltb k (length row) l) (linked_found l))
         (λ l. rw (le-ltb k (length row) l) (sym (linked_none l b (omega arith))))
         (cases_lt k (length row))
-
-  -- ---- the rise of a row
-
-  pub no_break : (a : ℕ) (r : Option ℕ) → MatchOption r (Rises ltb (loads_of_row n d memory a)) (λ i. FirstUnordered ltb (loads_of_row n d memory a) i) → r ≡ None
-  no_break a None rises = refl
-  no_break a (Some i) broken =
-      let rises = rises_from_above 0 (loads_of_row n d memory a) (rising a) in
-      absurd (both_ways _ (broken.fails 0) (rises.next i 0 broken.past broken.within))

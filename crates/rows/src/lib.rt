@@ -51,6 +51,7 @@ impl<'a> SortedRows<'a> {
         match SortedRows::check(size, row_limit, limit, rows) {
             Ok(_) => {
                 rows[0..size * (row_limit + 1)].fill(0);
+                // 256 and 255 at most, as checked
                 SortedRows {
                     size: size as u16,
                     row_limit: row_limit as u8,

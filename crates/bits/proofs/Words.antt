@@ -1,4 +1,4 @@
--- A list of words as a set of numbers: b is in it where bit b mod 64 of word b / 64 is 1.
+-- Lists of words as sets of numbers.
 use Rattle.std.proofs.Common.{◌≡◌, ℕ, suc, ◌+◌, ◌-◌, ◌*◌, ◌/◌, ◌%◌, ◌<◌, ◌≤◌, Bool, false, List, [], ◌∷◌, length, get_or, sym, refl, ap, ◌∙◌, ap₂, ⊎_elim, arith}
 use Rattle.std.specs.List.{sum_by}
 use Rattle.std.proofs.lemmas.Bool.{cases_lt}
@@ -7,10 +7,8 @@ use Rattle.std.proofs.lemmas.List.Sums.{sum_by-cons}
 use Rattle.graph.specs.Graph.{First, count}
 use Rattle.graph.proofs.Counts.{count_ext, count_add}
 use Rattle.bits.specs.Bit.{bit}
+use Rattle.bits.specs.Words.{member}
 use Rattle.bits.proofs.Bitwise.{bit_zero}
-
-abbrev pub member : List ℕ → ℕ → Bool
-member words b = bit (get_or words (b / 64) 0) (b % 64)
 
 -- bit j of word k
 pub member_at : (words : List ℕ) (k j : ℕ) → j < 64 → member words (64 * k + j) ≡ bit (get_or words k 0) j
