@@ -1,10 +1,10 @@
 -- Lists of words as sets of numbers.
-use Rattle.std.proofs.Common.{◌≡◌, ℕ, suc, ◌+◌, ◌-◌, ◌*◌, ◌/◌, ◌%◌, ◌<◌, ◌≤◌, Bool, false, List, [], ◌∷◌, length, get_or, sym, refl, ap, ◌∙◌, ap₂, ⊎_elim, arith}
+use Rattle.std.proofs.Common.{◌≡◌, ℕ, suc, ◌+◌, ◌*◌, ◌/◌, ◌%◌, ◌<◌, ◌≤◌, false, List, [], ◌∷◌, length, get_or, sym, refl, ap, ◌∙◌, ap₂, ⊎_elim, arith}
 use Rattle.std.specs.List.{sum_by}
 use Rattle.std.proofs.lemmas.Bool.{cases_lt}
 use Rattle.std.proofs.lemmas.List.{get_or_past}
 use Rattle.std.proofs.lemmas.List.Sums.{sum_by-cons}
-use Rattle.graph.specs.Graph.{First, count}
+use Rattle.graph.specs.Graph.{count}
 use Rattle.graph.proofs.Counts.{count_ext, count_add}
 use Rattle.bits.specs.Bit.{bit}
 use Rattle.bits.specs.Words.{member}
@@ -47,24 +47,6 @@ members_counted (w ∷ words) =
 -- none from `from` on and below `end`
 abbrev pub NoneIn : List ℕ → ℕ → ℕ → Type 0
 NoneIn words from end = (b : ℕ) → from ≤ b → b < end → member words b ≡ false
-
-module _ (words : List ℕ) (from k start : ℕ) (start_is : start ≡ from - 64 * k) (before : NoneIn words from (64 * k)) where
-  pub none_more : (stop : ℕ) → stop ≤ 64 → ((j : ℕ) → start ≤ j → j < stop → bit (get_or words k 0) j ≡ false) → NoneIn words from (64 * k + stop)
-  none_more stop top off b l m =
-      ⊎_elim
-      (λ h. before b l h)
-      (λ h.
-      let same : 64 * k + (b - 64 * k) ≡ b = omega arith in
-      ap (member words) (sym same) ∙ member_at words k (b - 64 * k) (omega arith) ∙ off (b - 64 * k) (omega arith) (omega arith))
-      (cases_lt b (64 * k))
-
-  pub first_in : (j : ℕ) → j < 64 → First (bit (get_or words k 0)) start j → First (member words) from (64 * k + j)
-  first_in j top first =
-      record {
-        past = omega (arith, first.past);
-        hit = member_at words k j top ∙ first.hit;
-        before = none_more j (omega arith) first.before;
-      }
 
 pub none_all : (words : List ℕ) (from end : ℕ) → 64 * length words ≤ end → NoneIn words from end → (b : ℕ) → from ≤ b → member words b ≡ false
 none_all words from end m none b h = ⊎_elim (λ l. none b h l) (λ l. member_past words b (omega arith)) (cases_lt b end)

@@ -10,7 +10,8 @@ use Rattle.bits.specs.Bit.{bit}
 use Rattle.bits.proofs.Bitwise.{bit_zero}
 use Rattle.books.specs.declared.bit_matrix.BitMatrix.{BitMatrix}
 use Rattle.books.specs.Matrix.{row_words, all_words, word_at, cell, is_place, matrix_row, matrix, matrix_graph, MatrixMade}
-use Rattle.books.proofs.Words.{member, member_past}
+use Rattle.bits.specs.Words.{member}
+use Rattle.bits.proofs.Words.{member_past}
 
 pub linked_in : (n : ℕ) (words : List ℕ) (a b : ℕ) → a < n → b < n → (matrix n words).linked a b ≡ cell n words a b
 linked_in n words a b l m = rw (lt-ltb a n l, lt-ltb b n m)

@@ -5,7 +5,7 @@ ghost use Rattle.links.specs.Books.{Adds, Removes};
 ghost use Rattle.links.specs.Refusals.{Answers};
 ghost use Rattle.books.specs.Matrix.{row_words, all_words, is_place, is_link_place, matrix_row, matrix_graph, matrix_ledger, MatrixMade, rewritten, checking, Making, Written, Beyond};
 
-use bits::{bit_of, count_bits, next_bit, with_bit, without_bit};
+use bits::{bit_of, count_bits, next_member, put_bit};
 use links::{
     Allowance, Book, Layer, Links, Refusal, Refused, Tally, check_add, check_limit, check_remove,
     check_size,
@@ -63,17 +63,6 @@ impl<'a> BitMatrix<'a> {
                 words,
             },
         }
-    }
-}
-
-// The word with the bit of load b put to `on`.
-fn put_bit(word: u64, b: usize, on: bool) -> u64
-    ensures { (j : ℕ) → bit result j ≡ (if nat_eq (b % 64) j then on else bit word j) }
-{
-    if on {
-        with_bit(word, b)
-    } else {
-        without_bit(word, b)
     }
 }
 
@@ -135,13 +124,7 @@ impl Links for BitMatrix<'_> {
     }
 
     fn next_linked(&self, a: usize, from: usize) -> Option<usize> {
-        let row = self.row(a);
-        for k in from / 64..row.len() {
-            if let Some(j) = next_bit(row[k], from.saturating_sub(64 * k)) {
-                return Some(64 * k + j);
-            }
-        }
-        None
+        next_member(self.row(a), from)
     }
 
     fn link_count(&self) -> usize {

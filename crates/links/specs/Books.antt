@@ -37,13 +37,17 @@ by_book number = Some (record { number = number; values = []; layer = Book })
 abbrev pub by : Layer → ℕ → Option Reason
 by layer number = Some (record { number = number; values = []; layer = layer })
 
+-- not one of the numbers from 1 to `most`
+abbrev pub unless_within : ℕ → Option Reason → ℕ → Option Reason → Option Reason
+unless_within most refused n otherwise = cond (n == 0 || nat_lt most n) refused otherwise
+
 -- 1: not 1 to 256 loads
 abbrev pub unless_size : ℕ → Option Reason → Option Reason
-unless_size size otherwise = cond (size == 0 || nat_lt 256 size) (by_book 1) otherwise
+unless_size = unless_within 256 (by_book 1)
 
 -- 2: not a limit of 1 to 32640 links
 abbrev pub unless_limit : ℕ → Option Reason → Option Reason
-unless_limit limit otherwise = cond (limit == 0 || nat_lt 32640 limit) (by_book 2) otherwise
+unless_limit = unless_within 32640 (by_book 2)
 
 -- 4: not two loads; 5: the same load twice
 abbrev pub unless_two_of : Layer → ℕ → ℕ → ℕ → Option Reason → Option Reason

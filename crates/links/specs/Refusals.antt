@@ -32,6 +32,10 @@ pub record Reason : Type 0 where
 abbrev pub told : Refused → Reason
 told r = record { number = (meaning r.refusal).0; values = (meaning r.refusal).1; layer = r.layer }
 
+-- the reason that a layer tells by a refusal
+abbrev pub told_by : Refusal → Layer → Option Reason
+told_by refusal layer = Some (told (record { refusal = refusal; layer = layer }))
+
 -- an answer under the first reason to refuse, if there is one: granted with what then holds, or refused for that reason
 abbrev pub Answers : {A : Type 0} → Option Reason → Result A Refused → (A → Type 0) → Type 0
 Answers reason (Ok x) Granted = (reason ≡ None) × Granted x

@@ -3,8 +3,8 @@
 
 ghost use Rattle.std.specs.Prelude.{◌≡◌, ℕ, None};
 ghost use Rattle.graph.specs.Graph.{Graph, Simple, degree, link_count, Next};
-ghost use Rattle.links.specs.Books.{Ledger, Bounded, Allows, Adds, Removes, unless_size, unless_limit, unless_two_of, adding, removing};
-ghost use Rattle.links.specs.Refusals.{Answers};
+ghost use Rattle.links.specs.Books.{Ledger, Bounded, Allows, Adds, Removes, unless_within, unless_size, unless_limit, unless_two_of, adding, removing};
+ghost use Rattle.links.specs.Refusals.{Answers, told_by};
 
 mod refusal;
 mod tally;
@@ -81,26 +81,29 @@ pub trait Book: Links {
         ensures { Removes Self.Links.graph Self.Links.made ledger self.old a b result self.new };
 }
 
+// Whether n is one of the numbers from 1 to `most`.
+fn check_within(n: usize, most: usize, refusal: Refusal) -> Result<(), Refused>
+    ensures { Answers (unless_within most (told_by refusal Layer.Book) n None) result (λ _. Unit {0}) }
+{
+    if (1..=most).contains(&n) {
+        Ok(())
+    } else {
+        Err(refusal.by(Layer::Book))
+    }
+}
+
 // Whether there can be so many loads.
 pub fn check_size(size: usize) -> Result<(), Refused>
     ensures { Answers (unless_size size None) result (λ _. Unit {0}) }
 {
-    if (1..=256).contains(&size) {
-        Ok(())
-    } else {
-        Err(Refusal::SizeOutOfRange.by(Layer::Book))
-    }
+    check_within(size, 256, Refusal::SizeOutOfRange)
 }
 
 // Whether a book can have this limit.
 pub fn check_limit(limit: usize) -> Result<(), Refused>
     ensures { Answers (unless_limit limit None) result (λ _. Unit {0}) }
 {
-    if (1..=32640).contains(&limit) {
-        Ok(())
-    } else {
-        Err(Refusal::LimitOutOfRange.by(Layer::Book))
-    }
+    check_within(limit, 32640, Refusal::LimitOutOfRange)
 }
 
 // Whether a and b are two of `size` loads.

@@ -26,7 +26,7 @@ impl Tables {
     fn tell(&mut self, x: u8, a: u8, on: bool)
         ensures { Stepped on (λ _. false) (nat_eq x) a self.old self.new }
     {
-        let x = x as usize;
+        let x = usize::from(x);
         self.records[x].free_links = step(self.records[x].free_links, on);
         self.free[x].put(a, on);
     }
@@ -35,7 +35,7 @@ impl Tables {
     fn count_link(&mut self, a: u8, on: bool)
         ensures { (b : ℕ) → Stepped on (nat_eq a) (λ _. false) b self.old self.new }
     {
-        let a = a as usize;
+        let a = usize::from(a);
         self.records[a].links = step(self.records[a].links, on);
     }
 
@@ -81,7 +81,7 @@ impl Tables {
     fn tell_linked<L: Links>(&mut self, links: &L, a: u8, on: bool)
         ensures { OfBook (L.Links.made links.now) (L.Links.graph links.now) (λ g. Stepped on (λ _. false) (g.linked a) a self.old self.new) }
     {
-        for x in linked_loads(links, a as usize, 256) {
+        for x in linked_loads(links, usize::from(a), 256) {
             self.tell(x as u8, a, on);
         }
     }
@@ -89,7 +89,7 @@ impl Tables {
     fn write_partner(&mut self, a: u8, partner: Option<u8>)
         ensures { PartnerWritten a partner self.old self.new }
     {
-        self.records[a as usize].partner = partner;
+        self.records[usize::from(a)].partner = partner;
     }
 
     // a has this partner from now on, or none, and each load that is linked to it learns whether it is free.

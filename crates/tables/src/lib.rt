@@ -79,14 +79,14 @@ impl Tables {
     pub fn links(&self, a: usize) -> usize
         ensures { result ≡ links_of self.now a }
     {
-        self.record(a).links as usize
+        usize::from(self.record(a).links)
     }
 
     // The number of free loads that a load is linked to.
     pub fn free_links(&self, a: usize) -> usize
         ensures { result ≡ free_count_of self.now a }
     {
-        self.record(a).free_links as usize
+        usize::from(self.record(a).free_links)
     }
 
     // The smallest free load at or above `from` that is linked to `a`.

@@ -2,7 +2,8 @@ use Rattle.std.proofs.Common.{◌≡◌, ℕ, ◌*◌, List, length, ap, ◌∙�
 use Rattle.std.specs.List.{sum_by}
 use Rattle.graph.specs.Graph.{count}
 use Rattle.bits.specs.Bit.{bit}
-use Rattle.books.proofs.Words.{member, members_counted}
+use Rattle.bits.specs.Words.{member}
+use Rattle.bits.proofs.Words.{members_counted}
 use Rattle.books.proofs.Cells.{row_degree}
 use Rattle.books.proofs.bit_matrix.BitMatrixLinks.degree.Goals as goal
 

@@ -1,6 +1,6 @@
 use Rattle.std.proofs.Common.{◌≡◌, ℕ, List, ap, ◌∙◌, rules}
 use Rattle.bits.specs.Bit.{bit}
-use Rattle.books.proofs.Words.{member}
+use Rattle.bits.specs.Words.{member}
 use Rattle.books.proofs.Cells.{row_linked}
 use Rattle.books.proofs.bit_matrix.BitMatrixLinks.linked.Goals as goal
 
