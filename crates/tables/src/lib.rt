@@ -94,6 +94,6 @@ impl Tables {
         ensures value { Next (free_linked self.now a) from result }
         ensures bound { IfSome result (λ b. b < 256) }
     {
-        self.free.get(a)?.next(from).map(usize::from)
+        self.free.get(a)?.next(from)
     }
 }

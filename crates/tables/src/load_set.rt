@@ -1,5 +1,5 @@
 // Changes of a set of loads, and a walk over it.
-ghost use Rattle.std.specs.Prelude.{◌≡◌, ℕ, if◌then◌else◌, nat_eq};
+ghost use Rattle.std.specs.Prelude.{◌≡◌, ℕ, ◌<◌, IfSome, if◌then◌else◌, nat_eq};
 ghost use Rattle.graph.specs.Graph.{Next};
 ghost use Rattle.tables.specs.Views.{has};
 
@@ -16,10 +16,10 @@ impl LoadSet {
     }
 
     // The smallest member at or above `from`.
-    pub(super) fn next(&self, from: usize) -> Option<u8>
-        ensures { Next (has self.now) from result }
+    pub(super) fn next(&self, from: usize) -> Option<usize>
+        ensures value { Next (has self.now) from result }
+        ensures bound { IfSome result (λ b. b < 256) }
     {
-        // at most 255
-        next_member(&self.words, from).map(|b| b as u8)
+        next_member(&self.words, from)
     }
 }
