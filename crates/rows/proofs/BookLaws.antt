@@ -8,6 +8,7 @@ use Rattle.graph.specs.Graph.{Simple, degree, First, Next}
 use Rattle.graph.proofs.Counts.{link_count_none, count_ext}
 use Rattle.links.proofs.Spares.{left}
 use Rattle.links.specs.Refusals.{Reason}
+use Rattle.rise.specs.Rise.{Rises, FirstUnordered}
 use Rattle.row.specs.Row.{entries, has, place, RowMade}
 use Rattle.links.specs.Memory.{Cleared}
 use Rattle.row.specs.Memory.{loads_of_row, row_of}
@@ -220,3 +221,11 @@ module _ (n d limit total : ℕ) (memory : List ℕ) (made : RowsMade n d limit 
         (λ l. rw (lt-ltb k (length row) l) (linked_found l))
         (λ l. rw (le-ltb k (length row) l) (sym (linked_none l b (omega arith))))
         (cases_lt k (length row))
+
+  -- ---- the rise of a row
+
+  pub no_break : (a : ℕ) (r : Option ℕ) → MatchOption r (Rises ltb (loads_of_row n d memory a)) (λ i. FirstUnordered ltb (loads_of_row n d memory a) i) → r ≡ None
+  no_break a None rises = refl
+  no_break a (Some i) broken =
+      let rises = rises_from_above 0 (loads_of_row n d memory a) (rising a) in
+      absurd (both_ways _ (broken.fails 0) (rises.next i 0 broken.past broken.within))
