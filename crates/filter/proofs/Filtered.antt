@@ -1,5 +1,5 @@
 -- What a filter leaves of a graph and of a ledger, and of a change to them.
-use Rattle.std.proofs.Common.{◌≡◌, ℕ, ◌%◌, ◌<◌, ◌≤◌, Bool, true, false, not, ◌&&◌, ◌||◌, eqb, ltb, List, get_or, sym, refl, ap, ◌∙◌, ap₂, ⊎_elim, arith}
+use Rattle.std.proofs.Common.{◌≡◌, ℕ, ◌≤◌, Bool, true, false, not, ◌&&◌, ◌||◌, eqb, ltb, List, get_or, sym, refl, ap, ◌∙◌, ap₂, ⊎_elim, arith}
 use Rattle.std.proofs.lemmas.Bool.{and_parts, and_left, and_right, eqb-true, ltb-true, or_cases}
 use Rattle.graph.specs.Graph.{Graph, Simple, link_count, added, removed, is_pair}
 use Rattle.links.specs.Books.{Ledger, Bounded, adding, removing}
@@ -26,14 +26,6 @@ Symmetric hid = (a b : ℕ) → hid a b ≡ hid b a
 pub hidden_symmetric : (classes bars : List ℕ) → Symmetric (hidden classes bars)
 unfolding bars_classes
 hidden_symmetric classes bars a b = or_swap (bit (get_or bars (class_of classes a) 0) (class_of classes b)) _
-
--- as the bits are read, at places modulo 64
-pub bars_read : (bars : List ℕ) (i j k m : ℕ) → i < 8 → j < 8 → i ≡ k → j ≡ m → (bit (get_or bars i 0) (j % 64) || bit (get_or bars j 0) (i % 64)) ≡ bars_classes bars k m
-unfolding bars_classes
-bars_read bars i j k m i-class j-class p q =
-    let row : i % 64 ≡ k = omega arith in
-    let column : j % 64 ≡ m = omega arith in
-    rw (row, column, p, q)
 
 -- ---- a filter over a graph and a ledger
 

@@ -41,7 +41,7 @@ impl<B> ClassFilter<B> {
     }
 
     // Whether the classes of the two loads are barred.
-    #[tactic(auto, using(crate::proofs::Filtered::bars_read), unfolding(crate::specs::Classes::bars_classes))]
+    #[tactic(auto, unfolding(crate::specs::Classes::bars_classes))]
     fn hidden(&self, a: usize, b: usize) -> bool
         ensures { result ≡ hidden self.now.classes self.now.bars a b }
     {

@@ -79,11 +79,7 @@ impl Entry {
 fn lower(x: Option<usize>, y: Option<usize>) -> Option<usize>
     ensures { result ≡ lower_of x y }
 {
-    match (x, y) {
-        (Some(i), Some(j)) => Some(i.min(j)),
-        (Some(i), None) => Some(i),
-        (None, _) => y,
-    }
+    x.into_iter().chain(y).min()
 }
 
 fn first_out_of_bounds(size: usize, entries: &[Entry]) -> Option<usize>
