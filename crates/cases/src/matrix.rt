@@ -22,7 +22,7 @@ fn numbers(rt: HostRuntime) {
         Refusal::BadEntry(3),
     ];
     for (i, refusal) in all.iter().enumerate() {
-        assert_eq!(rt; refusal.number() as usize, i + 1);
+        assert_eq!(rt; usize::from(refusal.number()), i + 1);
     }
 }
 
