@@ -1,7 +1,10 @@
 // The audit's verdicts.
-use audit::{NO_PARTNER as NONE, Verdict, audit};
+use audit::{Verdict, audit};
 use books::bit_matrix::BitMatrix;
-use links::{Book, Layer, Refusal, Refused};
+use links::{Book, Layer, Refusal};
+
+// No partner.
+const NONE: u16 = 65535;
 
 // A table of claims is as long as there are loads.
 #[test]

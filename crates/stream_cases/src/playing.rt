@@ -2,7 +2,6 @@
 use board::Board;
 use links::Book;
 use ranking::{ByNumber, Ranking};
-use replies::{LONGEST_LINE, LONGEST_PAIR};
 use std::process::Abort;
 use std::test::Fail;
 use stream::{list_pairs, step};
@@ -15,15 +14,12 @@ pub fn play_one<B: Book, R: Ranking>(
     place: usize,
     line: &str,
 ) -> Result<usize, Fail> {
-    let mut out = [0u8; LONGEST_LINE];
+    let mut out = [0u8; 19];
     let stepped = step(board, stream, place, &mut out)?;
-    assert!(rt; stepped.written <= LONGEST_LINE);
+    assert!(rt; stepped.written <= 19);
     assert_eq!(rt; &out[..stepped.written], line.as_bytes());
     Ok(stepped.place)
 }
-
-// No two pairs have longer lines.
-const TWO_PAIRS: usize = 2 * LONGEST_PAIR;
 
 // The pairs of a board, of which there are at most two, are these.
 pub fn check_pairs<B: Book, R: Ranking>(
@@ -31,9 +27,9 @@ pub fn check_pairs<B: Book, R: Ranking>(
     board: &Board<B, R>,
     pairs: &str,
 ) -> Result<(), Fail> {
-    let mut out = [0u8; TWO_PAIRS];
+    let mut out = [0u8; 16];
     let written = list_pairs(board, &mut out)?;
-    assert!(rt; written <= TWO_PAIRS);
+    assert!(rt; written <= 16);
     assert_eq!(rt; &out[..written], pairs.as_bytes());
     Ok(())
 }
