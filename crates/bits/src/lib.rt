@@ -61,7 +61,7 @@ pub fn put_bit(word: u64, place: usize, on: bool) -> u64
     }
 }
 
-// No row of words that is searched is longer.
+// Of a longer row only so many words are searched, so that no number overflows.
 const LONGEST_ROW: usize = 1024;
 
 // The smallest member, at or above `from`, of the set that a row of words is.

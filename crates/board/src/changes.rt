@@ -1,17 +1,14 @@
 // The calls that change a board.
 ghost use Rattle.std.specs.Prelude.{◌≡◌};
-ghost use Rattle.links.specs.Books.{Bounded};
 ghost use Rattle.rules.specs.Calls.{link, unlink, withdraw, depart};
-ghost use Rattle.rules.specs.Threshold.{threshold};
 ghost use Rattle.tables.specs.Changes.{OfBook};
 ghost use Rattle.board.specs.Boards.{Steps};
 ghost use Rattle.board.specs.Leaving.{RemovesLinks};
 ghost use Rattle.board.specs.Parting.{PartsPartners};
 
-use crate::{Board, threshold_of};
+use crate::{Board, repair_of};
 use links::{Book, Layer, Links, Refusal, Refused, check_two};
 use ranking::Ranking;
-use repair::Repair;
 use tables::Tables;
 
 // Parts a and b if they are partners.
@@ -42,14 +39,6 @@ fn remove_links<B: Book>(book: &mut B, tables: &mut Tables, a: usize)
 }
 
 impl<B: Book, R: Ranking> Board<B, R> {
-    // The most links that a free load may keep, by the limit of the book.
-    fn threshold(&self) -> usize
-        ensures value { B.Links.made self.now.book → result ≡ threshold (B.Book.ledger self.now.book).limit }
-        ensures bounded { B.Links.made self.now.book → Bounded (B.Links.graph self.now.book) (B.Book.ledger self.now.book) }
-    {
-        threshold_of(self.book.limit())
-    }
-
     // Links a and b, and repairs the matching at both. It looks at the links of the two loads, and at those of the at most
     // six loads whose partner changes.
     pub fn link(&mut self, a: usize, b: usize) -> Result<(), Refused>
@@ -58,9 +47,7 @@ impl<B: Book, R: Ranking> Board<B, R> {
         check_two(self.book.size(), a, b, Layer::Board)?;
         self.book.add(a, b)?;
         self.tables.link(a, b);
-        let threshold = self.threshold();
-        let repair = Repair::new(&self.book, &self.ranking, threshold);
-        repair.repair_two(&mut self.tables, a, b);
+        repair_of(&self.book, &self.ranking).repair_two(&mut self.tables, a, b);
         Ok(())
     }
 
@@ -73,9 +60,7 @@ impl<B: Book, R: Ranking> Board<B, R> {
         self.book.remove(a, b)?;
         self.tables.unlink(a, b);
         part_partners(&mut self.tables, &self.book, a, b);
-        let threshold = self.threshold();
-        let repair = Repair::new(&self.book, &self.ranking, threshold);
-        repair.repair_two(&mut self.tables, a, b);
+        repair_of(&self.book, &self.ranking).repair_two(&mut self.tables, a, b);
         Ok(())
     }
 
@@ -89,9 +74,7 @@ impl<B: Book, R: Ranking> Board<B, R> {
         remove_links(&mut self.book, &mut self.tables, a);
         if let Some(b) = partner {
             self.tables.part(&self.book, a, b);
-            let threshold = self.threshold();
-            let repair = Repair::new(&self.book, &self.ranking, threshold);
-            repair.repair(&mut self.tables, &[b]);
+            repair_of(&self.book, &self.ranking).repair(&mut self.tables, &[b]);
         }
         Ok(())
     }

@@ -2,12 +2,14 @@
 #![tactic(auto)]
 
 ghost use Rattle.std.specs.Prelude.{◌≡◌, ◌≤◌, None};
+ghost use Rattle.links.specs.Books.{Bounded};
 ghost use Rattle.links.specs.Refusals.{Answers};
 ghost use Rattle.rules.specs.Calls.{unless_load};
 ghost use Rattle.rules.specs.Threshold.{threshold};
 
 use links::{Book, Layer, Links, Refusal, Refused};
 use ranking::Ranking;
+use repair::Repair;
 use tables::Tables;
 
 mod changes;
@@ -27,6 +29,16 @@ fn threshold_of(limit: usize) -> usize
     ensures { limit ≤ 32640 → result ≡ threshold limit }
 {
     (0..256).find(|&t| limit <= t * t / 2).unwrap_or(256)
+}
+
+// What a board's repairs go by: its links, its ranking, and the threshold by the limit of its book.
+fn repair_of<'a, B: Book, R: Ranking>(book: &'a B, ranking: &'a R) -> Repair<'a, B, R>
+    ensures links { result.links.now ≡ book.now }
+    ensures ranking { result.ranking.now ≡ ranking.now }
+    ensures threshold { B.Links.made book.now → result.threshold ≡ threshold (B.Book.ledger book.now).limit }
+    ensures bounded { B.Links.made book.now → Bounded (B.Links.graph book.now) (B.Book.ledger book.now) }
+{
+    Repair::new(book, ranking, threshold_of(book.limit()))
 }
 
 impl<B: Book, R: Ranking> Board<B, R> {

@@ -5,11 +5,10 @@ ghost use Rattle.board.specs.Boards.{Opens};
 ghost use Rattle.board.specs.Runs.{Law};
 ghost use Rattle.board.specs.Recording.{AllFree, links_before};
 
-use crate::{Board, threshold_of};
+use crate::{Board, repair_of};
 use links::walk::linked_loads;
 use links::{Book, Links};
 use ranking::Ranking;
-use repair::Repair;
 use std::array;
 use tables::Tables;
 
@@ -43,8 +42,7 @@ impl<B: Book, R: Ranking> Board<B, R> {
         let size = book.size().min(256);
         let loads: [usize; 256] = array::from_fn(|load| load);
         let mut tables = recorded(&book, size);
-        let repair = Repair::new(&book, &ranking, threshold_of(book.limit()));
-        repair.repair(&mut tables, &loads[..size]);
+        repair_of(&book, &ranking).repair(&mut tables, &loads[..size]);
         Board {
             book,
             ranking,

@@ -1,8 +1,10 @@
 -- What is read inside a stream, and that a command that was written reads back.
-use Rattle.std.proofs.Common.{◌≡◌, ℕ, ◌<◌, ◌≤◌, List, ◌++◌, length, drop, Some, None, Ok, sym, refl, ap, ◌∙◌, arith}
+use Rattle.std.proofs.Common.{◌≡◌, ℕ, ◌<◌, ◌≤◌, List, ◌++◌, length, drop, Some, None, Ok, Err, Result, sym, refl, ap, ◌∙◌, arith}
 use Rattle.std.proofs.lemmas.Nat.{div-add-mod'}
 use Rattle.std.proofs.lemmas.List.{drop_at, length-append}
 use Rattle.std.proofs.lemmas.Bool.Decides.{nat_tests}
+use Rattle.links.specs.Outputs.{Writes}
+use Rattle.links.specs.declared.refusal.Refused.{Refused}
 use Rattle.commands.specs.Commands.{bytes, decoding, decoded, reading, read_at, followed, ReadsBack}
 use Rattle.commands.specs.declared.Command.{Command}
 use Rattle.commands.specs.declared.Command.TheVariants.{Link, Unlink, Withdraw, Depart, Partner}
@@ -28,8 +30,11 @@ some_bytes (Withdraw a) after = omega arith
 some_bytes (Depart a) after = omega arith
 some_bytes (Partner a) after = omega arith
 
-pub reads_back : (command : Command) (n : ℕ) (written after : List ℕ) → n ≡ length (bytes command) → written ≡ bytes command → ReadsBack command (written ++ after) (Ok n)
-reads_back command n written after size is =
+pub reads_back : (command : Command) (from out : List ℕ) (r : Result ℕ Refused) → Writes (bytes command) from r out → ReadsBack command out r
+reads_back command from out (Err e) writes = tt
+reads_back command from out (Ok n) writes =
+    let (size, is) = writes.answers.1 in
+    let after = drop n from in
     rw (size, is)
     (λ before short.
     let (granted, same) = decoded_back command after in

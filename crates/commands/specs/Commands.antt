@@ -2,7 +2,7 @@
 use Rattle.std.specs.Prelude.{◌≡◌, ℕ, ◌+◌, ◌*◌, ◌/◌, ◌%◌, ◌<◌, ◌≤◌, cond, ◌||◌, List, [], ◌∷◌, ◌++◌, length, drop, Some, None, Ok, Err, Option, Result, ◌==◌, nat_le, nat_lt, slice_index, codes, decimal}
 use Rattle.std.specs.List.{between}
 use Rattle.links.specs.Books.{by}
-use Rattle.links.specs.Refusals.{Reason, Answers, Kept}
+use Rattle.links.specs.Refusals.{Reason, Answers}
 use Rattle.links.specs.declared.refusal.Layer.TheVariants.{Stream}
 use Rattle.links.specs.declared.refusal.Refused.{Refused}
 use Rattle.commands.specs.declared.Command.{Command}
@@ -28,15 +28,6 @@ line_of (Withdraw a) = codes "withdraw " ++ decimal a
 line_of (Depart a) = codes "depart " ++ decimal a
 line_of (Partner a) = codes "partner " ++ decimal a
 
--- 14: the output is shorter than what is to be written
-abbrev pub writing : List ℕ → List ℕ → Option Reason
-writing written out = cond (nat_lt (length out) (length written)) (by Stream 14) None
-
--- bytes are written at the start of an output, and those beyond stay as they were
-pub record Writes (written before : List ℕ) (r : Result ℕ Refused) (after : List ℕ) : Type 0 where
-  pub kept : Kept r before after
-  pub answers : Answers (writing written before) r (λ n. (n ≡ length written) × (after ≡ written ++ drop (length written) before))
-
 -- the byte that says which command it is
 abbrev pub code : List ℕ → ℕ
 code rest = slice_index rest 0
@@ -60,10 +51,14 @@ decoding rest =
     cond (code rest == 0 || nat_lt 5 (code rest)) (by Stream 12)
     (cond (nat_lt (length rest) (length (bytes (decoded rest)))) (by Stream 13) None)
 
--- the first reason to refuse to read at a place of a stream. 3: the stream is too long
+-- 3: the stream is too long
+abbrev pub unless_short : List ℕ → Option Reason → Option Reason
+unless_short stream otherwise = cond (nat_lt 65536 (length stream)) (by Stream 3) otherwise
+
+-- the first reason to refuse to read at a place of a stream
 abbrev pub reading : List ℕ → ℕ → Option Reason
 reading stream place =
-    cond (nat_lt 65536 (length stream)) (by Stream 3)
+    unless_short stream
     (cond (nat_le (length stream) place) None (decoding (drop place stream)))
 
 -- a command read at a place, with the place after it

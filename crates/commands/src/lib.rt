@@ -2,11 +2,12 @@
 // lines of text.
 #![tactic(auto)]
 
-ghost use Rattle.std.specs.Prelude.{◌≡◌, ◌+◌, ◌*◌, ◌≤◌, length, take, Some};
+ghost use Rattle.std.specs.Prelude.{◌≡◌, ◌+◌, ◌*◌, ◌≤◌, length, take, None, Some};
+ghost use Rattle.links.specs.Outputs.{Writes};
 ghost use Rattle.links.specs.Refusals.{Answers};
-ghost use Rattle.commands.specs.Commands.{bytes, line_of, decoding, decoded, Writes, Reads, Spanned, ReadsBack};
+ghost use Rattle.commands.specs.Commands.{bytes, line_of, decoding, decoded, unless_short, Reads, Spanned, ReadsBack};
 
-use links::{Layer, Refusal, Refused};
+use links::{Layer, Refusal, Refused, write_start};
 use std::fmt;
 
 // A stream has at most this many bytes.
@@ -58,16 +59,12 @@ impl Command {
     }
 
     // Writes the command at the start of an output, and answers how many bytes it has.
+    #[tactic(auto, using(crate::proofs::Reading::reads_back))]
     pub fn write(self, out: &mut [u8]) -> Result<usize, Refused>
         ensures value { Writes (bytes self) out.old result out.new }
         ensures reads_back { ReadsBack self out.new result }
     {
-        let n = self.size();
-        if out.len() < n {
-            return Err(Refusal::OutputTooShort.by(Layer::Stream));
-        }
-        out[..n].copy_from_slice(&self.encode()[..n]);
-        Ok(n)
+        write_start(&self.encode()[..self.size()], out)
     }
 }
 
@@ -107,14 +104,22 @@ fn decode(rest: &[u8]) -> Result<Command, Refused>
     }
 }
 
+// Whether a stream is short enough to be read.
+pub fn check_length(stream: &[u8]) -> Result<(), Refused>
+    ensures { Answers (unless_short stream.now None) result (λ _. Unit {0}) }
+{
+    if stream.len() > LONGEST_STREAM {
+        return Err(Refusal::WrongLength.by(Layer::Stream));
+    }
+    Ok(())
+}
+
 // The command at a place of a stream; none at or past its end.
 pub fn read(stream: &[u8], place: usize) -> Result<Option<Decoded>, Refused>
     ensures value { Reads stream.now place result }
     ensures spanned { Spanned stream.now place result }
 {
-    if stream.len() > LONGEST_STREAM {
-        return Err(Refusal::WrongLength.by(Layer::Stream));
-    }
+    check_length(stream)?;
     if place >= stream.len() {
         return Ok(None);
     }

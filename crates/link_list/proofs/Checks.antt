@@ -1,9 +1,10 @@
 -- What the check of a list finds.
-use Rattle.std.proofs.Common.{◌≡◌, ℕ, ◌<◌, ◌≤◌, Bool, false, ◌||◌, List, [], length, Some, None, Option, sym, refl, ap, ◌∙◌, ap₂, subst, ⊎_elim, arith, MatchOption}
+use Rattle.std.proofs.Common.{◌≡◌, ℕ, ◌<◌, Bool, false, ◌||◌, List, [], length, Some, None, Option, sym, refl, ap, ◌∙◌, ap₂, subst, ⊎_elim, arith, MatchOption}
 use Rattle.std.proofs.lemmas.Bool.{cases_lt, lt-ltb, le-ltb, and_from, and_left, and_right, not-false, not_from_true, not_from_false}
 use Rattle.std.proofs.lemmas.Bool.Decides.{nat_tests}
 use Rattle.std.specs.declared.cmp.Ordering.{Ordering}
 use Rattle.std.specs.Ordering.{nat_cmp, on, then_cmp}
+use Rattle.links.specs.Books.{unless_size}
 use Rattle.rise.specs.Rise.{comes_before, StrictTotal, InOrder, Rises, FirstUnordered}
 use Rattle.link_list.specs.declared.Entry.{Entry}
 use Rattle.link_list.specs.Entries.{entry_before, unordered, out_of_bounds, lower_of, first}
@@ -53,17 +54,17 @@ first_unordered_is es o found = sym (by_cases o found)
         (in_order i at.earlier)
 
 module _ (n : ℕ) (es : List Entry) (x y : Option ℕ) (rise : RiseFound es x) (bounds : y ≡ first (length es) (out_of_bounds n es)) where
-  pub checking_is : 0 < n → n ≤ 256 → checking n es ≡ bad_entry (lower_of x y)
-  checking_is some small =
+  pub checking_is : unless_size n None ≡ None → checking n es ≡ bad_entry (lower_of x y)
+  checking_is granted =
       let in_range : checking n es ≡ bad_entry (first (length es) (λ k. unordered es k || out_of_bounds n es k)) = grind (arith, nat_tests) in
       in_range
       ∙ ap bad_entry (sym (lower_first (length es) (unordered es) (out_of_bounds n es)))
       ∙ sym (ap bad_entry (ap₂ lower_of (first_unordered_is es x rise) bounds))
 
-  pub sound_is : n ≤ 256 → lower_of x y ≡ None → Sound n es
-  sound_is small none =
+  pub sound_is : unless_size n None ≡ None → lower_of x y ≡ None → Sound n es
+  sound_is granted none =
       record {
-        small = small;
+        small = grind (arith, nat_tests);
         bounds = λ k l. not-false _ (none_first (length es) (out_of_bounds n es) (sym bounds ∙ no_second x y none) k l);
         rises = no_first x y rise none;
       }

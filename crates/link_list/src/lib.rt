@@ -6,7 +6,7 @@ ghost use Rattle.links.specs.Refusals.{Answers};
 ghost use Rattle.link_list.specs.Entries.{in_bounds, joins, next_joined, touches, lower_of, first, out_of_bounds};
 ghost use Rattle.link_list.specs.Lists.{list_graph, ListMade, checking, Sound, Listing};
 
-use links::{Layer, Links, Refusal, Refused};
+use links::{Layer, Links, Refusal, Refused, check_size};
 use rise::first_unordered;
 
 // The link of the loads a and b, where a is the lower one. Entries are ordered by a, and then by b.
@@ -80,9 +80,7 @@ impl<'a> LinkList<'a> {
     pub fn check(size: usize, entries: &[Entry]) -> Result<(), Refused>
         ensures { Answers (checking size entries.now) result (λ _. Sound size entries.now) }
     {
-        if size == 0 || size > 256 {
-            return Err(Refusal::SizeOutOfRange.by(Layer::Book));
-        }
+        check_size(size)?;
         match lower(first_unordered(entries), first_out_of_bounds(size, entries)) {
             Some(index) => Err(Refusal::BadEntry(index).by(Layer::Book)),
             None => Ok(()),

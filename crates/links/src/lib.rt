@@ -1,4 +1,5 @@
-// What can be asked of links, what a book of links can change, and the refusals.
+// What can be asked of links, what a book of links can change, the tally of a book, walks over linked loads, and the
+// refusals.
 #![tactic(auto)]
 
 ghost use Rattle.std.specs.Prelude.{◌≡◌, ℕ, None};
@@ -6,10 +7,12 @@ ghost use Rattle.graph.specs.Graph.{Graph, Simple, degree, link_count, Next};
 ghost use Rattle.links.specs.Books.{Ledger, Bounded, Allows, Adds, Removes, unless_within, unless_size, unless_limit, unless_two_of, adding, removing};
 ghost use Rattle.links.specs.Refusals.{Answers, told_by};
 
+mod output;
 mod refusal;
 mod tally;
 pub mod walk;
 
+pub use output::write_start;
 pub use refusal::{Layer, Refusal, Refused};
 pub use tally::Tally;
 
@@ -81,8 +84,8 @@ pub trait Book: Links {
         ensures { Removes Self.Links.graph Self.Links.made ledger self.old a b result self.new };
 }
 
-// Whether n is one of the numbers from 1 to `most`.
-fn check_within(n: usize, most: usize, refusal: Refusal) -> Result<(), Refused>
+// Whether n is one of the numbers from 1 to `most`; a book refuses any other by this refusal.
+pub fn check_within(n: usize, most: usize, refusal: Refusal) -> Result<(), Refused>
     ensures { Answers (unless_within most (told_by refusal Layer.Book) n None) result (λ _. Unit {0}) }
 {
     if (1..=most).contains(&n) {

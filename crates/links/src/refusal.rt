@@ -3,6 +3,7 @@ ghost use Rattle.std.specs.Prelude.{◌≡◌, Some};
 ghost use Rattle.links.specs.Refusals.{meaning};
 ghost use Rattle.links.specs.Words.{layer_name, reason_text, refused_text};
 
+use std::error::Error;
 use std::fmt;
 
 // Why a call is refused. Each case has a number, by which it is known outside.
@@ -151,3 +152,5 @@ impl fmt::Display for Refused {
         )
     }
 }
+
+impl Error for Refused {}

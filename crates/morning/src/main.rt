@@ -48,10 +48,10 @@ fn make<B: Book, R: Ranking>(board: &mut Board<B, R>, command: Command) -> Resul
 fn list_partners<B: Book, R: Ranking>(rt: &impl Print, board: &Board<B, R>) -> io::Result<()> {
     print!(rt; "  partners:")?;
     for a in 0..SIZE {
-        if let Ok(Some(b)) = board.partner(a) {
-            if a < b {
-                print!(rt; " {a}-{b}")?;
-            }
+        if let Ok(Some(b)) = board.partner(a)
+            && a < b
+        {
+            print!(rt; " {a}-{b}")?;
         }
     }
     println!(rt)

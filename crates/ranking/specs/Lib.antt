@@ -1,2 +1,3 @@
 pub mod Order
+pub mod First
 pub mod Detour

@@ -2,6 +2,7 @@
 #![tactic(auto)]
 
 ghost use Rattle.std.specs.Prelude.{◌≡◌, ℕ, Bool};
+ghost use Rattle.ranking.specs.First.{earlier};
 ghost use Rattle.ranking.specs.Order.{StrictOrder, lower};
 
 pub mod detour;
@@ -15,6 +16,16 @@ pub trait Ranking {
     fn comes_first(&self, a: usize, x: usize, y: usize) -> bool
         ensures value { result ≡ before self.now a x y }
         ensures ordered { (b : ℕ) → StrictOrder (before self.now b) };
+
+    // Which of the best so far and x comes first in a's ranking.
+    final fn earlier(&self, a: usize, best: Option<usize>, x: usize) -> usize
+        ensures { result ≡ earlier (before self.now a) best x }
+    {
+        match best {
+            Some(b) if self.comes_first(a, b, x) => b,
+            _ => x,
+        }
+    }
 }
 
 // The lower number comes first.

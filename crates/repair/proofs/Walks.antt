@@ -5,7 +5,8 @@ use Rattle.graph.specs.Graph.{Graph, Simple, First}
 use Rattle.links.specs.declared.walk.Walk.{Walk}
 use Rattle.links.specs.declared.walk.LinkedTo.{LinkedTo}
 use Rattle.links.specs.Walks.{NextBelow, Walks, Over}
-use Rattle.rules.specs.First.{earlier, first}
+use Rattle.ranking.specs.First.{earlier}
+use Rattle.rules.specs.First.{first}
 use Rattle.tables.specs.declared.Tables.{Tables}
 use Rattle.tables.specs.declared.walk.FreeLinked.{FreeLinked}
 use Rattle.tables.specs.Views.{free_linked}

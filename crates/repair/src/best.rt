@@ -3,7 +3,6 @@ ghost use Rattle.repair.specs.Best.{BestOf};
 
 use links::walk::{Rising, Walk};
 use ranking::Ranking;
-use tables::choices::earlier;
 
 // The first in a's ranking of the loads that the walk comes to and that pass the test.
 pub(super) fn best_of<R: Ranking, S: Rising + Drop, F: Fn(usize) -> bool>(
@@ -18,7 +17,7 @@ pub(super) fn best_of<R: Ranking, S: Rising + Drop, F: Fn(usize) -> bool>(
     let mut best = None;
     for x in walk {
         if test(x) {
-            best = Some(earlier(ranking, a, best, x));
+            best = Some(ranking.earlier(a, best, x));
         }
     }
     best

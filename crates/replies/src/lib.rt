@@ -2,13 +2,14 @@
 #![tactic(auto)]
 
 ghost use Rattle.std.specs.Prelude.{◌≡◌, ◌≤◌, length};
+ghost use Rattle.links.specs.Outputs.{Writes};
 ghost use Rattle.replies.specs.Digits.{DigitsDecimal, TwoDigitsDecimal};
-ghost use Rattle.replies.specs.Lines.{words, line, pair_line, Writes};
+ghost use Rattle.replies.specs.Lines.{words, line, pair_line};
 ghost use Rattle.replies.specs.Worked.{WorkedLines};
 
 use arrayvec::ArrayString;
 use itoa::Buffer;
-use links::{Layer, Refusal, Refused};
+use links::{Refused, write_start};
 
 // No reply has a longer line.
 pub const LONGEST_LINE: usize = 19;
@@ -35,7 +36,7 @@ impl Reply {
     {
         let mut line = self.words();
         line.push_str("\n");
-        write_text(line.as_str(), out)
+        write_start(line.as_bytes(), out)
     }
 
     // The reply without its line feed. Not a Display: formatting may fail, and a reply never does.
@@ -55,8 +56,8 @@ impl Reply {
             Reply::No(refused, place) => {
                 let number = refused.refusal.number();
                 text.push_str("no ");
-                text.push((b'0' + number / 10) as char);
-                text.push((b'0' + number % 10) as char);
+                text.push(char::from(b'0' + number / 10));
+                text.push(char::from(b'0' + number % 10));
                 text.push_str(" ");
                 text.push_str(refused.layer.name());
                 text.push_str(" ");
@@ -78,18 +79,7 @@ pub fn write_pair(a: u8, b: u8, out: &mut [u8]) -> Result<usize, Refused>
     line.push_str(" ");
     line.push_str(Buffer::new().format(b));
     line.push_str("\n");
-    write_text(line.as_str(), out)
-}
-
-// Writes a text at the start of `out`, and answers its length.
-fn write_text(text: &str, out: &mut [u8]) -> Result<usize, Refused>
-    ensures { Writes text.now out.old result out.new }
-{
-    if out.len() < text.len() {
-        return Err(Refusal::OutputTooShort.by(Layer::Stream));
-    }
-    out[..text.len()].copy_from_slice(text.as_bytes());
-    Ok(text.len())
+    write_start(line.as_bytes(), out)
 }
 
 // The decimal digits of a number read as that number and have no leading zeros; its two digits read as it too.

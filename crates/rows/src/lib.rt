@@ -11,7 +11,7 @@ ghost use Rattle.rows.specs.Rows.{Whole, book_row, book_graph, book_ledger, Book
 
 use links::{
     Allowance, Book, Layer, Links, Refusal, Refused, Tally, check_add, check_limit, check_remove,
-    check_size,
+    check_size, check_within,
 };
 use rise::first_unordered;
 use row::{Change, change_row, position, row_loads};
@@ -33,9 +33,7 @@ impl<'a> SortedRows<'a> {
     {
         check_size(size)?;
         check_limit(limit)?;
-        if !(1..=255).contains(&row_limit) {
-            return Err(Refusal::LimitOutOfRange.by(Layer::Book));
-        }
+        check_within(row_limit, 255, Refusal::LimitOutOfRange)?;
         if rows.len() < size * (row_limit + 1) {
             return Err(Refusal::WrongLength.by(Layer::Book));
         }

@@ -14,7 +14,8 @@ use Rattle.board.specs.declared.Board.{Board}
 use Rattle.commands.specs.Commands.{decoding, decoded, followed, Reads, Spans}
 use Rattle.commands.specs.declared.Decoded.{Decoded}
 use Rattle.commands.proofs.Reading.{reading_inside}
-use Rattle.replies.specs.Lines.{line, refusal_words, unless_fits, Writes}
+use Rattle.links.specs.Outputs.{unless_fits, Writes}
+use Rattle.replies.specs.Lines.{line, refusal_words}
 use Rattle.replies.specs.declared.Reply.{Reply}
 use Rattle.replies.specs.declared.Reply.TheVariants.{No}
 use Rattle.stream.specs.Replying.{reply_at, Plays}

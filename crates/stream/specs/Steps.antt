@@ -9,7 +9,7 @@ use Rattle.rules.specs.Calls.{Position, Call, link, unlink, withdraw, depart, as
 use Rattle.rules.specs.Repair.{Ranking}
 use Rattle.board.specs.Boards.{position, Stands}
 use Rattle.board.specs.declared.Board.{Board}
-use Rattle.commands.specs.Commands.{bytes, decoding, decoded}
+use Rattle.commands.specs.Commands.{bytes, decoding, decoded, unless_short}
 use Rattle.commands.specs.declared.Command.{Command}
 use Rattle.commands.specs.declared.Command.TheVariants.{Link, Unlink, Withdraw, Depart, Partner}
 use Rattle.replies.specs.Digits.{digits}
@@ -65,9 +65,9 @@ step_at before x stream place =
     cond (nat_le (length stream) place) (record { position = x; place = place; line = [] })
     (step_by before x (decoded (drop place stream)) place (decoding (drop place stream)))
 
--- why a step is refused. 3: the stream is too long; 14: the output may be too short for a line
+-- why a step is refused: the stream is too long, or 14: the output may be too short for a line
 abbrev pub stepping : List ℕ → List ℕ → Option Reason
-stepping stream out = cond (nat_lt 65536 (length stream)) (by Stream 3) (cond (nat_lt (length out) 19) (by Stream 14) None)
+stepping stream out = unless_short stream (cond (nat_lt (length out) 19) (by Stream 14) None)
 
 module _ {B R : Type 0} (graph : B → Graph) (made : B → Type 0) (ledger : B → Ledger) (before : R → Ranking) where
   -- a step y was made: its place and the length of its line are answered, its line is written at the start of the output

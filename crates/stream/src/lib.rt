@@ -3,15 +3,15 @@
 
 ghost use Rattle.std.specs.Prelude.{◌≡◌, ◌%◌, ◌≤◌, length, IfOk, if◌then◌else◌};
 ghost use Rattle.graph.specs.Pairs.{below_partner};
+ghost use Rattle.links.specs.Outputs.{Writes};
 ghost use Rattle.links.specs.Refusals.{Answers};
 ghost use Rattle.board.specs.Boards.{position, Stands};
-ghost use Rattle.replies.specs.Lines.{Writes};
 ghost use Rattle.stream.specs.Pairs.{narrow_line, Lists};
 ghost use Rattle.stream.specs.Replying.{Plays};
 ghost use Rattle.stream.specs.Steps.{stepping, Steps};
 
 use board::Board;
-use commands::{Command, LONGEST_STREAM, read};
+use commands::{Command, check_length, read};
 use links::{Book, Layer, Links, Refusal, Refused};
 use ranking::Ranking;
 use replies::{LONGEST_LINE, LONGEST_PAIR, Reply, write_pair};
@@ -52,9 +52,7 @@ fn play<B: Book, R: Ranking>(board: &mut Board<B, R>, command: Command) -> Resul
 fn check_step(stream: &[u8], out: &[u8]) -> Result<(), Refused>
     ensures { Answers (stepping stream.now out.now) result (λ _. Unit {0}) }
 {
-    if stream.len() > LONGEST_STREAM {
-        return Err(Refusal::WrongLength.by(Layer::Stream));
-    }
+    check_length(stream)?;
     if out.len() < LONGEST_LINE {
         return Err(Refusal::OutputTooShort.by(Layer::Stream));
     }

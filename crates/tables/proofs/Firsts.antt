@@ -8,7 +8,8 @@ use Rattle.graph.proofs.Partners.{none_is}
 use Rattle.graph.proofs.Paths.{linked_apart}
 use Rattle.links.specs.declared.walk.Walk.{Walk}
 use Rattle.links.specs.Walks.{NextBelow, past, Walks}
-use Rattle.rules.specs.First.{earlier, first}
+use Rattle.ranking.specs.First.{earlier}
+use Rattle.rules.specs.First.{first}
 use Rattle.rules.specs.Repair.{Ranking, free_link, paired_found, match_free}
 use Rattle.rules.proofs.First.{first_found}
 use Rattle.tables.specs.declared.Tables.{Tables}

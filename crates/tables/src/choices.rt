@@ -1,6 +1,5 @@
 // How a load finds a free load among those that it is linked to.
 ghost use Rattle.std.specs.Prelude.{◌≡◌};
-ghost use Rattle.rules.specs.First.{earlier};
 ghost use Rattle.tables.specs.Views.{Agrees};
 ghost use Rattle.tables.specs.Changes.{OfBook};
 ghost use Rattle.tables.specs.Choices.{FirstFree, Matched};
@@ -9,16 +8,6 @@ use crate::Tables;
 use links::Links;
 use ranking::Ranking;
 
-// Which of the best so far and x comes first in a's ranking.
-pub fn earlier<R: Ranking>(ranking: &R, a: usize, best: Option<usize>, x: usize) -> usize
-    ensures { result ≡ earlier (R.Ranking.before ranking.now a) best x }
-{
-    match best {
-        Some(b) if ranking.comes_first(a, b, x) => b,
-        _ => x,
-    }
-}
-
 impl Tables {
     // The first in a's ranking of the free loads that a is linked to.
     pub fn first_free<R: Ranking>(&self, ranking: &R, a: usize) -> Option<usize>
@@ -26,7 +15,7 @@ impl Tables {
     {
         let mut best = None;
         for x in self.free_loads(a) {
-            best = Some(earlier(ranking, a, best, x));
+            best = Some(ranking.earlier(a, best, x));
         }
         best
     }

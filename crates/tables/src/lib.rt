@@ -7,7 +7,7 @@ ghost use Rattle.graph.specs.Pairs.{is_free};
 ghost use Rattle.tables.specs.Views.{record_of, partners_of, links_of, free_count_of, free_linked, matched_of, New};
 
 mod changes;
-pub mod choices;
+mod choices;
 mod load_set;
 pub mod walk;
 

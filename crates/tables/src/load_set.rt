@@ -1,4 +1,4 @@
-// Changes of a set of loads, and a walk over it.
+// Changes of a set of loads, and its next member.
 ghost use Rattle.std.specs.Prelude.{◌≡◌, ℕ, ◌<◌, IfSome, if◌then◌else◌, nat_eq};
 ghost use Rattle.graph.specs.Graph.{Next};
 ghost use Rattle.tables.specs.Views.{has};

@@ -16,6 +16,7 @@ use links::{Book, Refused};
 use ranking::{ByNumber, Ranking};
 use replies::{LONGEST_LINE, LONGEST_PAIR};
 use std::alloc::{AllocError, Global};
+use std::error::Error;
 use std::fmt;
 use stream::{list_pairs, step};
 
@@ -55,6 +56,8 @@ impl fmt::Display for Failure {
         }
     }
 }
+
+impl Error for Failure {}
 
 // Makes a step, puts its line at the end of the text, and answers the place after it.
 fn push_step<B: Book, R: Ranking>(

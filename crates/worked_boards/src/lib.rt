@@ -36,8 +36,8 @@ fn partners<B: Book, R: Ranking, const N: usize>(
     ensures { Reads B.Links.graph B.Links.made B.Book.ledger board.now N result }
 {
     let mut partners = [None; N];
-    for a in 0..N {
-        partners[a] = board.partner(a)?;
+    for (a, partner) in partners.iter_mut().enumerate() {
+        *partner = board.partner(a)?;
     }
     Ok(partners)
 }

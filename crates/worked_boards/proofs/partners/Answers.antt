@@ -8,11 +8,11 @@ use Rattle.worked_boards.proofs.Played.{read_more}
 use Rattle.worked_boards.proofs.Refusals.{not_refused}
 use Rattle.worked_boards.proofs.partners.Goals as goal
 
-pub returns-in_err-partners : goal.returns-in_err-partners
-returns-in_err-partners g c = λ stands inside.
+pub returns-in_err-partner : goal.returns-in_err-partner
+returns-in_err-partner g c = λ stands inside.
     let n = (g.B.Links.graph c.args.board.now.book).size in
     let within : c.loop-a.a < n = omega arith in
-    absurd (not_refused c.in_err-partners.field-0.0 (cond-false _ _ _ (lt-leb n c.loop-a.a within)) (c.in_err-partners.ensures stands))
+    absurd (not_refused c.in_err-partner.field-0.0 (cond-false _ _ _ (lt-leb n c.loop-a.a within)) (c.in_err-partner.ensures stands))
 
 pub loop-a-init : goal.loop-a-init
 loop-a-init g c = (length-replicate g.row.N None, λ _. refl)
@@ -21,14 +21,14 @@ pub loop-a-preserved : goal.loop-a-preserved
 loop-a-preserved g c =
     let a = c.loop-a.a in
     let long = c.loop-a.invariant.0 in
-    let room : a < length c.loop-a.partners = omega arith in (
-      length-set c.loop-a.partners a _ ∙ long,
-      λ stands. read_more (partners_of c.args.board.now.tables) c.loop-a.partners a _ room (c.loop-a.invariant.1 stands) (c.in_ok-partners.ensures stands).1,
+    let room : a < length c.loop-a.partner-items = omega arith in (
+      length-set c.loop-a.partner-items a _ ∙ long,
+      λ stands. read_more (partners_of c.args.board.now.tables) c.loop-a.partner-items a _ room (c.loop-a.invariant.1 stands) (c.in_ok-partner.ensures stands).1,
     )
 
 pub returns : goal.returns
 returns g c = λ stands inside.
     let long = c.loop-a.invariant.0 in
     let done : c.loop-a.a ≡ g.row.N = omega arith in
-    let past : length c.loop-a.partners ≤ c.loop-a.a = omega arith in
-    ap Ok (sym (take_all c.loop-a.a c.loop-a.partners past) ∙ c.loop-a.invariant.1 stands ∙ ap (λ (n : ℕ). listed (partners_of c.args.board.now.tables) 0 n) done)
+    let past : length c.loop-a.partner-items ≤ c.loop-a.a = omega arith in
+    ap Ok (sym (take_all c.loop-a.a c.loop-a.partner-items past) ∙ c.loop-a.invariant.1 stands ∙ ap (λ (n : ℕ). listed (partners_of c.args.board.now.tables) 0 n) done)

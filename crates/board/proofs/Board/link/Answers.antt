@@ -14,11 +14,11 @@ returns g c = record {
       let made = stands.book_made in
       let granted = c.in_ok-add.ensures.answers made in
       let still = granted.1.still_made in
-      let parts = c.new-repair.ensures in
+      let parts = c.repair_of.ensures in
       let change = on_book g.B.Links.made g.B.Links.graph g.R.Ranking.before (λ before t graph. Changes graph (repair before t graph (in_order c.args.a c.args.b)) c.link.new.self c.repair_two.new.tables)
-      c.new-repair.result c.add.new.self c.args.self.now.ranking c.threshold-threshold.result parts.links parts.ranking parts.threshold c.repair_two.ensures in
+      c.repair_of.result c.add.new.self c.args.self.now.ranking c.repair_of.result.threshold parts.links parts.ranking refl c.repair_two.ensures in
       linked_leads g.B.Links.graph g.B.Links.made g.B.Book.ledger g.R.Ranking.before c.args.self.now c.args.a c.args.b stands
       granted.0 (record { book = c.add.new.self; ranking = c.args.self.now.ranking; tables = c.repair_two.new.tables }) granted.1
-      c.threshold-threshold.result (c.threshold-threshold.ensures.value still) (c.threshold-threshold.ensures.bounded still)
+      c.repair_of.result.threshold (parts.threshold still) (parts.bounded still)
       c.link.new.self c.link.ensures.changed (change still);
 }

@@ -1,8 +1,7 @@
-use Rattle.std.proofs.Common.{◌≡◌, ℕ, ◌≤◌, List, take, subst, ap, ◌∙◌, rules, arith}
+use Rattle.std.proofs.Common.{◌≡◌, ℕ, ◌≤◌, List, take, subst, refl, rules, arith}
 use Rattle.rules.specs.Repair.{repair}
 use Rattle.repair.specs.Holds.{Changes}
 use Rattle.repair.proofs.Book.{on_book}
-use Rattle.rules.specs.Threshold.{threshold}
 use Rattle.board.proofs.Opened.{opens, opened_holds}
 use Rattle.board.proofs.Numbers.{numbers_below}
 use Rattle.board.proofs.Runs.{law}
@@ -15,23 +14,21 @@ returns g c =
     let before = g.R.Ranking.before c.args.ranking in
     let ledger = g.B.Book.ledger book in
     let opening = opens g.B.Links.graph g.B.Links.made g.B.Book.ledger g.R.Ranking.before book c.args.ranking c.repair.new.tables
-    c.size.ensures.simple c.limit.ensures.bounded (λ made.
+    c.size.ensures.simple c.repair_of.ensures.bounded (λ made.
     let simple = c.size.ensures.simple made in
     let value = c.size.ensures.value made in
     let small = simple.small in
     let same_size : c.min-size.result ≡ graph.size = omega (arith, c.min-size.ensures) in
-    let same-limit = c.limit.ensures.value made in
-    let low : c.limit.result ≤ 32640 = omega (arith, (c.limit.ensures.bounded made).limit_bound) in
     let items = c.from_fn-loads.ensures.items in
     let loads = c.from_fn-loads.result in
     let fits : c.min-size.result ≤ 256 = omega arith in
     let numbers = numbers_below 256 c.min-size.result loads items.long fits (λ k h. let (p, q, called) = items.at k 0 h in search rules) in
-    let parts = c.new-repair.ensures in
+    let parts = c.repair_of.ensures in
     let listed = on_book g.B.Links.made g.B.Links.graph g.R.Ranking.before (λ before t graph. Changes graph (repair before t graph (take c.min-size.result loads)) c.recorded-tables.result c.repair.new.tables)
-    c.new-repair.result book c.args.ranking c.threshold_of.result parts.links parts.ranking parts.threshold c.repair.ensures in
-    let change = subst (λ (l : List ℕ). Changes graph (repair before c.threshold_of.result graph l) c.recorded-tables.result c.repair.new.tables) numbers (listed made simple) in
-    opened_holds before graph ledger c.threshold_of.result c.min-size.result
-    (c.threshold_of.ensures low ∙ ap threshold same-limit) same_size
+    c.repair_of.result book c.args.ranking c.repair_of.result.threshold parts.links parts.ranking refl c.repair.ensures in
+    let change = subst (λ (l : List ℕ). Changes graph (repair before c.repair_of.result.threshold graph l) c.recorded-tables.result c.repair.new.tables) numbers (listed made simple) in
+    opened_holds before graph ledger c.repair_of.result.threshold c.min-size.result
+    (parts.threshold made) same_size
     (c.recorded-tables.ensures made simple same_size) change) in
     record {
       opens = opening;
