@@ -1,4 +1,4 @@
-// What can be asked of a board. Each question but that for the number of pairs looks at the record or the set of one load.
+// What can be asked of a board. Each question looks at the record or the set of one load, or at a count that is kept.
 ghost use Rattle.std.specs.Prelude.{◌≡◌};
 ghost use Rattle.rules.specs.Calls.{ask_partner, ask_free_links, partner_of, free_links_of};
 ghost use Rattle.board.specs.Boards.{Told, ToldNext, ToldPairs};
@@ -39,7 +39,7 @@ impl<B: Book, R: Ranking> Board<B, R> {
         &self.book
     }
 
-    // The number of pairs. Looks at the record of every load.
+    // The number of pairs.
     pub fn pairs(&self) -> usize
         ensures { ToldPairs B.Links.graph B.Links.made B.Book.ledger self.now result }
     {

@@ -17,23 +17,21 @@ fn loads(row: &[u16]) -> &[u16]
     ensures { result.now ≡ entries row.now }
 {
     match row {
-        [count, rest @ ..] => rest.get(..*count as usize).unwrap_or(rest),
+        [count, rest @ ..] => rest.get(..usize::from(*count)).unwrap_or(rest),
         [] => row,
     }
 }
 
 // The loads of row a. There is a row for each load below `size`.
+#[tactic(auto, unfolding(crate::specs::Memory::row_of))]
 pub fn row_loads(rows: &[u16], size: u16, row_limit: u8, a: usize) -> &[u16]
     ensures { size * (row_limit + 1) ≤ length rows.now → result.now ≡ loads_of_row size row_limit rows.now a }
 {
-    if a >= size as usize {
+    if a >= usize::from(size) {
         return &[];
     }
-    let width = row_limit as usize + 1;
-    match rows.get(a * width..(a + 1) * width) {
-        Some(row) => loads(row),
-        None => &[],
-    }
+    let width = usize::from(row_limit) + 1;
+    loads(rows.get(a * width..(a + 1) * width).unwrap_or(&[]))
 }
 
 // The index of the first load that is not below b.
@@ -43,7 +41,7 @@ pub fn position(loads: &[u16], b: usize) -> usize
 {
     loads
         .iter()
-        .position(|x| *x as usize >= b)
+        .position(|x| usize::from(*x) >= b)
         .unwrap_or(loads.len())
 }
 
@@ -55,11 +53,11 @@ fn insert(row: &mut [u16], b: u16)
     let Some(&count) = row.first() else {
         return;
     };
-    let n = count as usize;
+    let n = usize::from(count);
     if n + 1 >= row.len() {
         return;
     }
-    let k = position(loads(row), b as usize) + 1;
+    let k = position(loads(row), usize::from(b)) + 1;
     row[k..=n + 1].rotate_right(1);
     row[k] = b;
     row[0] = count + 1;
@@ -72,11 +70,11 @@ fn remove(row: &mut [u16], b: u16)
     let Some(&count) = row.first() else {
         return;
     };
-    let n = count as usize;
+    let n = usize::from(count);
     if n >= row.len() {
         return;
     }
-    let k = position(loads(row), b as usize) + 1;
+    let k = position(loads(row), usize::from(b)) + 1;
     if k > n {
         return;
     }
@@ -89,8 +87,8 @@ fn remove(row: &mut [u16], b: u16)
 pub fn change_row(rows: &mut [u16], row_limit: u8, a: u16, b: u16, change: Change)
     ensures { RowChanged (Able change) (changed change) row_limit a b rows.old rows.new }
 {
-    let width = row_limit as usize + 1;
-    let start = a as usize * width;
+    let width = usize::from(row_limit) + 1;
+    let start = usize::from(a) * width;
     if start + width <= rows.len() {
         let row = &mut rows[start..start + width];
         match change {

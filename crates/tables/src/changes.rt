@@ -86,10 +86,18 @@ impl Tables {
         }
     }
 
+    // a has this partner, or none, and is counted or no longer.
     fn write_partner(&mut self, a: u8, partner: Option<u8>)
         ensures { PartnerWritten a partner self.old self.new }
     {
-        self.records[usize::from(a)].partner = partner;
+        let record = &mut self.records[usize::from(a)];
+        if record.partner.is_some() {
+            self.matched -= 1;
+        }
+        if partner.is_some() {
+            self.matched += 1;
+        }
+        record.partner = partner;
     }
 
     // a has this partner from now on, or none, and each load that is linked to it learns whether it is free.

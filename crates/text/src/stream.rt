@@ -88,11 +88,10 @@ fn push(stream: &mut Vec<u8>, command: Command) -> Result<(), AllocError>
 fn push_line(stream: &mut Vec<u8>, line: &[u8], number: usize) -> Result<(), BadText>
     ensures { Appends line.now number stream.old.items result stream.new.items }
 {
-    match parse_line(line) {
-        Ok(Some(command)) => Ok(push(stream, command)?),
-        Ok(None) => Ok(()),
-        Err(_) => Err(BadText::Line(number)),
+    if let Some(command) = parse_line(line).map_err(|_| BadText::Line(number))? {
+        push(stream, command)?;
     }
+    Ok(())
 }
 
 // The stream of the commands of a text, line by line.

@@ -1,5 +1,4 @@
-// Plays a morning at an exchange on a board, and says what each call answers and who is paired after it.
-#![tactic(auto)]
+// A morning at an exchange, played on a board: what each call answers, and who is paired after it.
 
 use audit::NO_PARTNER;
 use board::Board;
@@ -65,17 +64,17 @@ fn claims<B: Book, R: Ranking>(board: &Board<B, R>) -> [u16; SIZE] {
     })
 }
 
-fn main(rt: HostRuntime) -> io::Result<()> {
+pub fn play(rt: &impl Print) -> io::Result<()> {
     println!(rt;
         "A morning at an exchange: eight loads, at most nine links, the lower number first."
     )?;
     let mut words = [0; SIZE];
     let mut board = Board::open(BitMatrix::new(SIZE, 9, &mut words), ByNumber);
     for command in MORNING {
-        answer(&rt, command, make(&mut board, command))?;
-        list_partners(&rt, &board)?;
+        answer(rt, command, make(&mut board, command))?;
+        list_partners(rt, &board)?;
     }
     println!(rt; "{} pairs are left.", board.pairs())?;
     println!(rt; "The audit of these pairs:")?;
-    judge(&rt, board.book(), &claims(&board))
+    judge(rt, board.book(), &claims(&board))
 }

@@ -1,0 +1,74 @@
+// What can be asked of the tables, and tables of loads that are all free and have no links.
+ghost use Rattle.std.specs.Prelude.{◌≡◌, ◌<◌, IfSome};
+ghost use Rattle.graph.specs.Graph.{Next};
+ghost use Rattle.graph.specs.Pairs.{is_free};
+ghost use Rattle.tables.specs.Views.{record_of, partners_of, links_of, free_count_of, free_linked, matched_of, New};
+
+use crate::{LoadSet, Record, Tables};
+
+// A load that is free and has no links.
+const BLANK: Record = Record {
+    partner: None,
+    links: 0,
+    free_links: 0,
+};
+
+impl Tables {
+    // All loads are free, and have no links.
+    pub fn new() -> Tables
+        ensures { New result }
+    {
+        Tables {
+            records: [BLANK; 256],
+            free: [LoadSet { words: [0; 4] }; 256],
+            matched: 0,
+        }
+    }
+
+    fn record(&self, a: usize) -> Record
+        ensures { result ≡ record_of self.now a }
+    {
+        self.records.get(a).copied().unwrap_or(BLANK)
+    }
+
+    pub fn partner(&self, a: usize) -> Option<usize>
+        ensures { result ≡ partners_of self.now a }
+    {
+        self.record(a).partner.map(usize::from)
+    }
+
+    pub fn is_free(&self, a: usize) -> bool
+        ensures { result ≡ is_free (partners_of self.now) a }
+    {
+        self.record(a).partner.is_none()
+    }
+
+    // The number of loads that have a partner.
+    pub fn matched(&self) -> usize
+        ensures { result ≡ matched_of self.now }
+    {
+        usize::from(self.matched)
+    }
+
+    // The number of links of a load.
+    pub fn links(&self, a: usize) -> usize
+        ensures { result ≡ links_of self.now a }
+    {
+        usize::from(self.record(a).links)
+    }
+
+    // The number of free loads that a load is linked to.
+    pub fn free_links(&self, a: usize) -> usize
+        ensures { result ≡ free_count_of self.now a }
+    {
+        usize::from(self.record(a).free_links)
+    }
+
+    // The smallest free load at or above `from` that is linked to `a`.
+    pub fn next_free_linked(&self, a: usize, from: usize) -> Option<usize>
+        ensures value { Next (free_linked self.now a) from result }
+        ensures bound { IfSome result (λ b. b < 256) }
+    {
+        self.free.get(a)?.next(from)
+    }
+}
