@@ -13,7 +13,10 @@ fn main(rt: HostRuntime) -> io::Result<()> {
         .read_to_end(&mut input)?;
     match transcript(rt.alloc(), input.as_slice()) {
         Ok(text) => rt.write_all(text.as_slice())?,
-        Err(failure) => eprintln!(rt; "{failure}")?,
+        Err(failure) => {
+            eprintln!(rt; "{failure}")?;
+            return Err(io::Error::from(io::ErrorKind::Other));
+        }
     }
     if input.len() == LONGEST_STREAM {
         eprintln!(rt; "nothing past the first {LONGEST_STREAM} bytes was read")?;
