@@ -3,12 +3,9 @@ use Rattle.std.proofs.Common.{◌≡◌, ℕ, true, not, ◌&&◌, eqb, is_some,
 use Rattle.std.proofs.lemmas.Bool.{eqb-false, ne_eqb, and_parts, and_from, not-true, not_from_false}
 use Rattle.graph.specs.Graph.{Graph}
 use Rattle.graph.specs.Matching.{Partners, FreeLink, FreeWalk}
+use Rattle.graph.proofs.Partners.{none_is}
 use Rattle.audit.specs.Claims.{free}
 use Rattle.audit.specs.Verdicts.{free_link, ends, free_walk}
-
-free_none : (o : Option ℕ) → not (is_some o) ≡ true → o ≡ None
-free_none None e = refl
-free_none (Some b) e = cc
 
 none_free : (o : Option ℕ) → o ≡ None → not (is_some o) ≡ true
 none_free None e = refl
@@ -18,7 +15,7 @@ pub link_shape : (g : Graph) (p : Partners) (a b : ℕ) → free_link g p a b �
 link_shape g p a b e =
     let outer = and_parts (free p a && g.linked a b) (free p b) e in
     let inner = and_parts (free p a) (g.linked a b) outer.0 in
-    record { begins = free_none (p a) inner.0; link = inner.1; ends = free_none (p b) outer.1 }
+    record { begins = none_is (p a) inner.0; link = inner.1; ends = none_is (p b) outer.1 }
 
 pub shape_link : (g : Graph) (p : Partners) (a b : ℕ) → FreeLink g p a b → free_link g p a b ≡ true
 shape_link g p a b h = and_from _ _ (and_from _ _ (none_free (p a) h.begins) h.link) (none_free (p b) h.ends)
@@ -30,11 +27,11 @@ walk_shape g p a x y z pair e =
     let end = and_parts (g.linked y z && free p z) (not (eqb z a)) halves.1 in
     let last = and_parts (g.linked y z) (free p z) end.0 in
     record {
-      begins = free_none (p a) start.0;
+      begins = none_is (p a) start.0;
       first = start.1;
       pair = pair;
       last = last.0;
-      ends = free_none (p z) last.1;
+      ends = none_is (p z) last.1;
       apart = λ same. eqb-false z a (not-true (eqb z a) end.1) (sym same);
     }
 

@@ -134,7 +134,7 @@ impl<L: Links> Claimed<'_, L> {
         Some((a, b))
     }
 
-    // The first path from a over the pair of x to a free load.
+    // The first path from a over the pair of x to another free load.
     fn path_over(&self, a: usize, x: usize) -> Option<(usize, usize, usize, usize)>
         ensures { Tells L.Links.made L.Links.graph self.now (λ g p. path_beyond g p a x) result }
     {

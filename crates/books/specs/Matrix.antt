@@ -59,6 +59,7 @@ ledger n limit count words =
 abbrev pub matrix_ledger : BitMatrix → Ledger
 matrix_ledger m = ledger m.size m.tally.limit m.tally.count m.words.now
 
+-- what holds of every matrix that came from its making, by its numbers and its words
 pub record Made (n limit count : ℕ) (words : List ℕ) : Type 0 where
   pub small : n ≤ 256
   pub limit_bound : limit ≤ 32640

@@ -20,6 +20,7 @@ pub fn add_and_ask<B: Book>(book: &mut B, a: usize, b: usize) -> Result<bool, Re
     Ok(book.linked(b, a))
 }
 
+// On a fresh book of each kind the first link is granted and there: on a bit matrix, on rows, and under one filter or two.
 pub fn on_matrix() -> Result<bool, Refused>
     ensures { result ≡ Ok true }
 {

@@ -1,19 +1,14 @@
 -- What a filter leaves of a graph and of a ledger, and of a change to them.
 use Rattle.std.proofs.Common.{◌≡◌, ℕ, ◌≤◌, Bool, true, false, not, ◌&&◌, ◌||◌, eqb, ltb, List, get_or, sym, refl, ap, ◌∙◌, ap₂, ⊎_elim, arith}
+use mathlib.Core.Bool.{or_comm}
 use Rattle.std.proofs.lemmas.Bool.{and_parts, and_left, and_right, eqb-true, ltb-true, or_cases}
 use Rattle.graph.specs.Graph.{Graph, Simple, link_count, added, removed, is_pair}
+use Rattle.graph.proofs.Injections.{link_count_fewer}
 use Rattle.links.specs.Books.{Ledger, Bounded, adding, removing}
 use Rattle.bits.specs.Bit.{bit}
 use Rattle.filter.specs.Classes.{class_of, bars_classes, hidden, filtered, filtered_ledger}
-use Rattle.filter.proofs.Monotone.{count_mono, total_mono}
 
 -- ---- which pairs are hidden
-
-or_swap : (x y : Bool) → (x || y) ≡ (y || x)
-or_swap true true = refl
-or_swap true false = refl
-or_swap false true = refl
-or_swap false false = refl
 
 and_swap : (x y z : Bool) → (x && (y && z)) ≡ (y && (x && z))
 and_swap true y z = refl
@@ -25,14 +20,14 @@ Symmetric hid = (a b : ℕ) → hid a b ≡ hid b a
 
 pub hidden_symmetric : (classes bars : List ℕ) → Symmetric (hidden classes bars)
 unfolding bars_classes
-hidden_symmetric classes bars a b = or_swap (bit (get_or bars (class_of classes a) 0) (class_of classes b)) _
+hidden_symmetric classes bars a b = or_comm (bit (get_or bars (class_of classes a) 0) (class_of classes b)) _
 
 -- ---- a filter over a graph and a ledger
 
 module _ (hid : ℕ → ℕ → Bool) (g : Graph) where
   pub filtered_links : link_count (filtered hid g) ≤ link_count g
   filtered_links =
-      total_mono g.size _ _ (λ a. count_mono a ((filtered hid g).linked a) (g.linked a) (λ b e. (and_parts (g.linked a b) _ e).0))
+      link_count_fewer g (filtered hid g) refl (λ a b e. (and_parts (g.linked a b) _ e).0)
 
   pub filtered_simple : Symmetric hid → Simple g → Simple (filtered hid g)
   filtered_simple even s =

@@ -52,7 +52,8 @@ impl<B> ClassFilter<B> {
 }
 
 impl<B: Book> ClassFilter<B> {
-    // Gives each load the class at its place. A load past the end has class 0, and what stands past the last load is left out.
+    // Gives each load the class at its place. A load past the end of the slice has class 0, and classes past the 256th are of no
+    // load.
     pub fn new(below: B, classes: &[u8], bars: [u8; 8]) -> ClassFilter<B>
         ensures below { result.below ≡ below }
         ensures classes { (a : ℕ) → class_of result.classes a ≡ class_of classes.now a }
@@ -110,7 +111,7 @@ impl<B: Book> Links for ClassFilter<B> {
         linked_loads_from(&self.below, a, from, self.below.size()).find(|b| !self.hidden(a, *b))
     }
 
-    // Each link is counted at its higher load.
+    // Each link is counted at its higher load. A book that was not made may tell any size; at 256 the sum cannot overflow.
     fn link_count(&self) -> usize {
         let size = self.below.size().min(256);
         (0..size).map(|a| self.count_visible(a, a)).sum()

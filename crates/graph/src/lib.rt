@@ -26,7 +26,7 @@ pub fn handshake()
     ensures { Handshake }
 {}
 
-// Counted at their lower loads there are as many pairs: half the loads that have a partner.
+// The pairs, counted at their lower loads, are half the loads that have a partner.
 pub fn pairs_at_lower()
     ensures { PairsAtLower }
 {}

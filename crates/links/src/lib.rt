@@ -1,8 +1,8 @@
-// What can be asked of links, what a book of links can change, the tally of a book, walks over linked loads, and the
-// refusals.
+// What can be asked of links, what a book of links can change, the checks that every book makes, the tally of a book, walks
+// over linked loads, the refusals, and the writing of bytes into an output.
 #![tactic(auto)]
 
-ghost use Rattle.std.specs.Prelude.{◌≡◌, ℕ, None};
+ghost use Rattle.std.specs.Prelude.{◌≡◌, None};
 ghost use Rattle.graph.specs.Graph.{Graph, Simple, degree, link_count, Next};
 ghost use Rattle.links.specs.Books.{Ledger, Bounded, Allows, Adds, Removes, unless_within, unless_size, unless_limit, unless_two_of, adding, removing};
 ghost use Rattle.links.specs.Refusals.{Answers, told_by};

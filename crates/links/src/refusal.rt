@@ -19,9 +19,9 @@ pub enum Refusal {
     NoSuchLoad,
     // 5: both loads are the same
     SameLoad,
-    // 6
+    // 6: the two are linked already
     AlreadyLinked,
-    // 7
+    // 7: the two are not linked
     NotLinked,
     // 8: the pair is barred
     Barred,
@@ -64,7 +64,7 @@ impl Refusal {
         }
     }
 
-    // The refusal as the layer tells it that found it.
+    // The answer of a call that is refused for this reason, which the layer found.
     pub fn by(self, layer: Layer) -> Refused
         ensures { result ≡ record { refusal = self; layer = layer } }
     {
@@ -134,6 +134,7 @@ impl fmt::Display for Layer {
     }
 }
 
+// What a refused call answers: why, and which layer found it.
 #[derive(Clone, Copy, PartialEq, Eq, Debug)]
 pub struct Refused {
     pub refusal: Refusal,

@@ -75,7 +75,7 @@ impl SortedRows<'_> {
         row_loads(self.rows, self.size, self.row_limit, a)
     }
 
-    // The first load in row a that does not come after the one before it.
+    // The index, among the loads of row a, of the first that does not come after the one before it.
     pub fn row_break(&self, a: usize) -> Option<usize>
         ensures first { Whole self.now → MatchOption result (Rises nat_lt (book_row self.now a)) (λ i. FirstUnordered nat_lt (book_row self.now a) i) }
         ensures none { BookMade self.now → result ≡ None }

@@ -1,4 +1,4 @@
--- From how many links on a free load is heavy.
+-- How many links a free load may have at most; with more it is heavy.
 use Rattle.std.specs.Prelude.{ℕ, zero, suc, ◌+◌, ◌*◌, cond, nat_le}
 
 -- the first of t, t + 1, .. whose square is at least `least`, of `tries` numbers tried

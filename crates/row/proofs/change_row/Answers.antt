@@ -1,4 +1,4 @@
-use Rattle.std.proofs.Common.{arith, rules, sym}
+use Rattle.std.proofs.Common.{arith, sym}
 use Rattle.row.proofs.Memory.{row_changed}
 use Rattle.row.specs.declared.Change.TheVariants.{Insert, Remove}
 use Rattle.row.proofs.change_row.Goals as goal
