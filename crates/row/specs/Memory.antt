@@ -15,7 +15,7 @@ loads_of_row n d memory a = cond (nat_lt a n) (entries (row_of d memory a)) []
 unfoldable pub with_row : ℕ → List ℕ → ℕ → List ℕ → List ℕ
 with_row d memory a row = take (a * (d + 1)) memory ++ (row ++ drop (a * (d + 1) + (d + 1)) memory)
 
--- row a after b was put in or taken out, if it could be; the memory beyond the row is as it was
+-- row a after b was put in, or the first load not below b taken out, if that could be done; the memory beyond the row is as it was
 pub record RowChanged (Able : List ℕ → ℕ → Type 0) (change : List ℕ → ℕ → List ℕ) (d a b : ℕ) (before after : List ℕ) : Type 0 where
   pub row : a * (d + 1) + (d + 1) ≤ length before → Able (row_of d before a) b → after ≡ with_row d before a (change (row_of d before a) b)
   pub beyond : (k : ℕ) → a * (d + 1) + (d + 1) ≤ k → slice_index after k ≡ slice_index before k

@@ -83,7 +83,7 @@ fn remove(row: &mut [u16], b: u16)
     row[0] = count - 1;
 }
 
-// Puts b into row a, or takes it out, where that can be done.
+// Puts b into row a where the row is not full, or takes the first load that is not below b out of it where it has one.
 pub fn change_row(rows: &mut [u16], row_limit: u8, a: u16, b: u16, change: Change)
     ensures { RowChanged (Able change) (changed change) row_limit a b rows.old rows.new }
 {
