@@ -2,7 +2,7 @@
 use Rattle.std.proofs.Common.{◌≡◌, ℕ, ◌+◌, ◌-◌, ◌*◌, ◌<◌, ◌≤◌, min, List, ◌++◌, length, get_or, take, drop, sym, refl, ap, ◌∙◌, subst, ap₂, ⊎_elim, arith}
 use borrow.Rule.Slice.PartMut.{put_mid}
 use Rattle.std.proofs.lemmas.Nat.{mul-add-lt}
-use Rattle.std.proofs.lemmas.List.{length-take, length-take-le, length-drop, length-append, get_or-take, get_or-drop, get_or_append_left, get_or-append_right, drop-drop, drop_at, take_at, same_lists}
+use Rattle.std.proofs.lemmas.List.{length-take, length-take-le, take-append-drop, length-drop, length-append, get_or-take, get_or-drop, get_or_append_left, get_or-append_right, drop-drop, drop_at, take_at, same_lists}
 use Rattle.std.proofs.lemmas.Bool.{cases_order}
 use Rattle.row.specs.Memory.{row_of, with_row, RowChanged, both_changed, BothAble, BothChanged}
 use Rattle.row.specs.Row.{Able, changed}
@@ -34,6 +34,14 @@ unfolding with_row
 with_row_part d memory a i k row ei ek =
     ap₂ (λ (x y : ℕ). put_mid y x memory row) ek ei
     ∙ ap (λ (xs : List ℕ). take (a * (d + 1)) memory ++ (row ++ xs)) (drop-drop (d + 1) (a * (d + 1)) memory)
+
+-- a row written over itself
+with_own_row : (d : ℕ) (memory : List ℕ) (a : ℕ) → with_row d memory a (row_of d memory a) ≡ memory
+unfolding row_of with_row
+with_own_row d memory a =
+    ap (λ (xs : List ℕ). take (a * (d + 1)) memory ++ (take (d + 1) (drop (a * (d + 1)) memory) ++ xs)) (sym (drop-drop (d + 1) (a * (d + 1)) memory))
+    ∙ ap (λ (xs : List ℕ). take (a * (d + 1)) memory ++ xs) (take-append-drop (d + 1) (drop (a * (d + 1)) memory))
+    ∙ take-append-drop (a * (d + 1)) memory
 
 module _ (d : ℕ) (memory : List ℕ) (a : ℕ) (row : List ℕ) (long : length row ≡ d + 1) (within : a * (d + 1) + (d + 1) ≤ length memory) where
   length_start : length (take (a * (d + 1)) memory) ≡ a * (d + 1)
@@ -91,10 +99,11 @@ module _ (d : ℕ) (memory : List ℕ) (a : ℕ) (row : List ℕ) (long : length
           (cases_order x a)
 
 -- as the code does it: a change of the part of the memory that is row a
-pub row_changed : (change : Change) (d a b k : ℕ) (memory row : List ℕ) → k ≡ d + 1 → a * (d + 1) + (d + 1) ≤ length memory → length row ≡ length (take k (drop (a * (d + 1)) memory)) → (Able change (take k (drop (a * (d + 1)) memory)) b → row ≡ changed change (take k (drop (a * (d + 1)) memory)) b) → RowChanged (Able change) (changed change) d a b memory (put_mid (a * (d + 1)) k memory row)
-row_changed change d a b k memory row ek within same changes =
+pub row_changed : (change : Change) (d a b k : ℕ) (memory row : List ℕ) → k ≡ d + 1 → a * (d + 1) + (d + 1) ≤ length memory → length row ≡ length (take k (drop (a * (d + 1)) memory)) → (Able change (take k (drop (a * (d + 1)) memory)) b → row ≡ changed change (take k (drop (a * (d + 1)) memory)) b) → ((Able change (take k (drop (a * (d + 1)) memory)) b → ⊥) → row ≡ take k (drop (a * (d + 1)) memory)) → RowChanged (Able change) (changed change) d a b memory (put_mid (a * (d + 1)) k memory row)
+row_changed change d a b k memory row ek within same changes keeps =
     record {
       row = λ _ able. written ∙ ap (with_row d memory a) (subst (λ (xs : List ℕ). Able change xs b → row ≡ changed change xs b) part changes able);
+      kept = λ unable. written ∙ ap (with_row d memory a) (subst (λ (xs : List ℕ). (Able change xs b → ⊥) → row ≡ xs) part keeps (unable within)) ∙ with_own_row d memory a;
       beyond = λ i l.
           ap (λ (xs : List ℕ). get_or xs i 0) written ∙ beyond_row d memory a row (same ∙ ap length part ∙ length_row_of d memory a within) within i 0 l;
     }

@@ -15,9 +15,11 @@ loads_of_row n d memory a = cond (nat_lt a n) (entries (row_of d memory a)) []
 unfoldable pub with_row : ℕ → List ℕ → ℕ → List ℕ → List ℕ
 with_row d memory a row = take (a * (d + 1)) memory ++ (row ++ drop (a * (d + 1) + (d + 1)) memory)
 
--- row a after b was put in, or the first load not below b taken out, if that could be done; the memory beyond the row is as it was
+-- row a after b was put in, or the first load not below b taken out, where there is such a row in which that could be done;
+-- else the memory is as it was, and beyond the row it always is
 pub record RowChanged (Able : List ℕ → ℕ → Type 0) (change : List ℕ → ℕ → List ℕ) (d a b : ℕ) (before after : List ℕ) : Type 0 where
   pub row : a * (d + 1) + (d + 1) ≤ length before → Able (row_of d before a) b → after ≡ with_row d before a (change (row_of d before a) b)
+  pub kept : (a * (d + 1) + (d + 1) ≤ length before → Able (row_of d before a) b → ⊥) → after ≡ before
   pub beyond : (k : ℕ) → a * (d + 1) + (d + 1) ≤ k → slice_index after k ≡ slice_index before k
 
 -- the memory after b was put into row a, or taken out of it, and a into or out of row b

@@ -48,7 +48,8 @@ pub fn position(loads: &[u16], b: usize) -> usize
 // Puts b into a row that is not full.
 fn insert(row: &mut [u16], b: u16)
     requires { length row.old ≤ 256 }
-    ensures { Insertable row.old b → row.new ≡ row_with row.old b }
+    ensures inserted { Insertable row.old b → row.new ≡ row_with row.old b }
+    ensures kept { (Insertable row.old b → ⊥) → row.new ≡ row.old }
 {
     let Some(&count) = row.first() else {
         return;
@@ -65,7 +66,8 @@ fn insert(row: &mut [u16], b: u16)
 
 // Takes the first load that is not below b out of a row that has one.
 fn remove(row: &mut [u16], b: u16)
-    ensures { Removable row.old b → row.new ≡ row_without row.old b }
+    ensures removed { Removable row.old b → row.new ≡ row_without row.old b }
+    ensures kept { (Removable row.old b → ⊥) → row.new ≡ row.old }
 {
     let Some(&count) = row.first() else {
         return;

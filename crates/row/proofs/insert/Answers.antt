@@ -4,8 +4,8 @@ use Rattle.row.specs.Row.{place}
 use Rattle.row.proofs.RowChange.{row_inserted}
 use Rattle.row.proofs.insert.Goals as goal
 
-pub returns : goal.returns
-returns c room =
+pub returns-clause-inserted : goal.returns-clause-inserted
+returns-clause-inserted c room =
     let row : List ℕ = c.args.row.now in
     let n : ℕ = c.in-Some.field-0.now in
     let m : ℕ = c.from-n.result in

@@ -1,10 +1,10 @@
-use Rattle.std.proofs.Common.{◌≡◌, ℕ, ◌+◌, ◌-◌, List, get_or, ap, ap₂, sym, ◌∙◌, arith, rules}
+use Rattle.std.proofs.Common.{◌≡◌, ℕ, ◌+◌, ◌-◌, List, get_or, ap₂, sym, ◌∙◌, arith, rules}
 use Rattle.row.specs.Row.{place}
 use Rattle.row.proofs.RowChange.{row_removed}
 use Rattle.row.proofs.remove.Goals as goal
 
-pub returns : goal.returns
-returns c able =
+pub returns-clause-removed : goal.returns-clause-removed
+returns-clause-removed c able =
     let row : List ℕ = c.args.row.now in
     let n : ℕ = c.in-Some.field-0.now in
     let m : ℕ = c.from-n.result in
