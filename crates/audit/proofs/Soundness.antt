@@ -8,7 +8,7 @@ use Rattle.audit.specs.declared.Verdict.{Verdict}
 use Rattle.audit.specs.declared.Verdict.TheVariants.{Sound, NotReturned, NotLinked, PathOfOne, PathOfThree}
 use Rattle.audit.specs.Claims.{claimed, partner_in, passes, is, returned}
 use Rattle.audit.specs.Soundness.{SoundClaims, SoundWhen}
-use Rattle.audit.specs.Verdicts.{meaning, lowest_not_returned, lowest_not_linked, free_link, path_of_one_at, lowest_path_of_one, free_walk, path_over_at, path_of_three_at, lowest_path_of_three, fault, verdict}
+use Rattle.audit.specs.Verdicts.{meaning, lowest_not_returned, lowest_not_linked, linked_free, path_of_one_at, lowest_path_of_one, free_walk, path_over_at, path_of_three_at, lowest_path_of_three, fault, verdict}
 use Rattle.audit.proofs.Lowest.{lowest_none, none_below, passing_none, none_passing, failing_none, none_failing}
 use Rattle.audit.proofs.Paths.{over_at}
 use Rattle.audit.proofs.Shapes.{link_shape, shape_link, walk_shape, shape_walk}
@@ -86,8 +86,8 @@ module _ (g : Graph) (s : Simple g) (cs : List ℕ) (whole : length cs ≡ g.siz
     where
       at : (a : ℕ) × (b : ℕ) × (path ≡ a ∷ b ∷ []) × FreeLink g p a b → ⊥
       at (a, b, e, walk) =
-          both_ways (free_link g p a b)
-          (none_passing g.size (free_link g p a) (λ x. (a, x))
+          both_ways (linked_free g p a b)
+          (none_passing g.size (linked_free g p a) (λ x. (a, x))
           (none_below g.size (path_of_one_at g p) off a (s.below a b walk.link))
           b (linked_below a b walk.link))
           (shape_link g p a b walk)
@@ -125,8 +125,8 @@ module _ (g : Graph) (s : Simple g) (cs : List ℕ) (whole : length cs ≡ g.siz
   one_clear : NoAugmenting g p 1 → lowest_path_of_one g p ≡ None
   one_clear never =
       lowest_none g.size (path_of_one_at g p) (λ a _.
-      passing_none g.size (free_link g p a) (λ b. (a, b)) (λ b _.
-      false_from_ne_true (free_link g p a b) (λ on. never (a ∷ b ∷ []) ((of_one g s p).path a b (link_shape g p a b on)))))
+      passing_none g.size (linked_free g p a) (λ b. (a, b)) (λ b _.
+      false_from_ne_true (linked_free g p a b) (λ on. never (a ∷ b ∷ []) ((of_one g s p).path a b (link_shape g p a b on)))))
 
   three_clear : Matching g p → NoAugmenting g p 3 → lowest_path_of_three g p ≡ None
   three_clear m never = lowest_none g.size (path_of_three_at g p) (λ a _. lowest_none g.size (path_over_at g p a) (λ x _. at a x (p x) refl))

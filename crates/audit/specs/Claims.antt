@@ -1,5 +1,5 @@
 -- The partners that a table of claims gives the loads.
-use Rattle.std.specs.Prelude.{ℕ, Bool, true, false, cond, not, List, length, is_some, Some, None, Option, ◌==◌, nat_lt, slice_index}
+use Rattle.std.specs.Prelude.{ℕ, Bool, true, false, cond, List, length, Some, None, Option, ◌==◌, nat_lt, slice_index}
 use Rattle.graph.specs.Matching.{Partners}
 
 -- 65535 claims no partner
@@ -9,9 +9,6 @@ partner_in claim = cond (claim == 65535) None (Some claim)
 -- the partner that each load claims; a number without a claim has none
 abbrev pub claimed : List ℕ → Partners
 claimed claims a = cond (nat_lt a (length claims)) (partner_in (slice_index claims a)) None
-
-abbrev pub free : Partners → ℕ → Bool
-free p a = not (is_some (p a))
 
 -- the partner, if there is one, passes the test
 abbrev pub passes : Option ℕ → (ℕ → Bool) → Bool

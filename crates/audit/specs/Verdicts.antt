@@ -4,12 +4,13 @@ use Rattle.std.specs.Option.{option_or}
 use Rattle.std.specs.Bool.{then_some}
 use Rattle.graph.specs.Graph.{Graph}
 use Rattle.graph.specs.Matching.{Partners}
+use Rattle.graph.specs.Pairs.{is_free}
 use Rattle.links.specs.Refusals.{Reason, Answers}
 use Rattle.links.specs.declared.refusal.Layer.TheVariants.{Board}
 use Rattle.links.specs.declared.refusal.Refused.{Refused}
 use Rattle.audit.specs.declared.Verdict.{Verdict}
 use Rattle.audit.specs.declared.Verdict.TheVariants.{Sound, NotReturned, NotLinked, PathOfOne, PathOfThree}
-use Rattle.audit.specs.Claims.{claimed, free, passes, returned, and_then}
+use Rattle.audit.specs.Claims.{claimed, passes, returned, and_then}
 
 -- the number of each verdict, and its loads
 abbrev pub meaning : Verdict → ℕ × List ℕ
@@ -37,22 +38,22 @@ abbrev pub lowest_not_linked : Graph → Partners → Option ℕ
 lowest_not_linked g p = lowest g.size (λ a. then_some (not (is_linked g p a)) a)
 
 -- two free loads that are linked
-abbrev pub free_link : Graph → Partners → ℕ → ℕ → Bool
-free_link g p a b = free p a && g.linked a b && free p b
+abbrev pub linked_free : Graph → Partners → ℕ → ℕ → Bool
+linked_free g p a b = is_free p a && g.linked a b && is_free p b
 
 abbrev pub path_of_one_at : Graph → Partners → ℕ → Option (ℕ × ℕ)
-path_of_one_at g p a = lowest g.size (λ b. then_some (free_link g p a b) (a, b))
+path_of_one_at g p a = lowest g.size (λ b. then_some (linked_free g p a b) (a, b))
 
 abbrev pub lowest_path_of_one : Graph → Partners → Option (ℕ × ℕ)
 lowest_path_of_one g p = lowest g.size (path_of_one_at g p)
 
 -- z is a free load linked to y, other than a
 abbrev pub ends : Graph → Partners → ℕ → ℕ → ℕ → Bool
-ends g p a y z = g.linked y z && free p z && not (z == a)
+ends g p a y z = g.linked y z && is_free p z && not (z == a)
 
 -- from a free load a to a load x, over its pair x, y, and on to another free load z
 abbrev pub free_walk : Graph → Partners → ℕ → ℕ → ℕ → ℕ → Bool
-free_walk g p a x y z = free p a && g.linked a x && ends g p a y z
+free_walk g p a x y z = is_free p a && g.linked a x && ends g p a y z
 
 abbrev pub path_over_at : Graph → Partners → ℕ → ℕ → Option (ℕ × ℕ × ℕ × ℕ)
 path_over_at g p a x = and_then (p x) (λ y. lowest g.size (λ z. then_some (free_walk g p a x y z) (a, x, y, z)))

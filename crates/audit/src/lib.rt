@@ -2,7 +2,8 @@
 #![tactic(auto)]
 
 ghost use Rattle.std.specs.Prelude.{◌≡◌, length, Some};
-ghost use Rattle.audit.specs.Claims.{claimed, free, returned};
+ghost use Rattle.graph.specs.Pairs.{is_free};
+ghost use Rattle.audit.specs.Claims.{claimed, returned};
 ghost use Rattle.audit.specs.Example.{MiddleClaimed};
 ghost use Rattle.audit.specs.Soundness.{SoundWhen};
 ghost use Rattle.audit.specs.Steps.{Tells, lowest_end, path_beyond};
@@ -82,7 +83,7 @@ impl<L: Links> Claimed<'_, L> {
     }
 
     fn is_free(&self, a: usize) -> bool
-        ensures { result ≡ free (claimed self.now.claims.now) a }
+        ensures { result ≡ is_free (claimed self.now.claims.now) a }
     {
         self.partner_of(a).is_none()
     }
@@ -197,6 +198,6 @@ pub fn audit<L: Links>(links: &L, claims: &[u16]) -> Result<Verdict, Refused>
 }
 
 // On a path of four loads of which only the middle two claim each other, the audit finds an augmenting path.
-pub fn worked_example()
+pub fn middle_pair_leaves_a_path()
     ensures { MiddleClaimed }
 {}

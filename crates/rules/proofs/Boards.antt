@@ -9,7 +9,7 @@ use Rattle.graph.proofs.Paths.{free_taken, of_three}
 use Rattle.rules.specs.Boards.{Row, Six, Star, Ranked, Refusals, by_number, fresh, fresh_ledger, played, row, row_calls, six, six_calls, RowAugmenting}
 use Rattle.rules.specs.Calls.{Position, Call, after}
 use Rattle.rules.specs.Laws.{Proper, Run, none, more}
-use Rattle.rules.specs.Mends.{InTurn, Closed, OnlyDisplaced, Unhealthy, six_graph, six_in_turn, triangle_closed, tail, tail_calls, tail_graph, tail_displaced}
+use Rattle.rules.specs.FailingRepairs.{InTurn, Closed, OnlyDisplaced, Unhealthy, six_graph, six_in_turn, triangle_closed, tail, tail_calls, tail_graph, tail_displaced}
 use Rattle.rules.specs.Repair.{paired}
 use Rattle.rules.proofs.Runs.{law_of_runs}
 use Rattle.rules.proofs.Updates.{paired_matching}

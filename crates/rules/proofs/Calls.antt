@@ -10,7 +10,7 @@ use Rattle.links.specs.declared.refusal.Layer.TheVariants.{Board}
 use Rattle.links.proofs.Reasons.{two_none, adding_none, removing_none}
 use Rattle.rules.specs.Calls.{Position, Call, link, unlink, withdraw, depart, ask_partner, ask_free_links, ask_pairs, reason, granted, unless, after, opened}
 use Rattle.rules.specs.Health.{Healthy, Sound, Follows}
-use Rattle.rules.specs.Laws.{most, allowed, Within, Kept}
+use Rattle.rules.specs.Laws.{most, allowed, Within, KeepsSound}
 use Rattle.rules.specs.Repair.{Ranking}
 use Rattle.rules.specs.Threshold.{threshold}
 use Rattle.rules.proofs.CallChanges.{link_six, unlink_twelve, withdraw_seven, depart_two}
@@ -48,7 +48,7 @@ nothing n x k = record {
   few = λ _. ([], omega arith, λ w _. refl);
 }
 
-leads_kept : (x : Position) (c : Call) (y : Position) → Sound x → Leads (allowed (reason x c) c) x y → link_count y.graph ≤ x.ledger.limit → Kept x c y
+leads_kept : (x : Position) (c : Call) (y : Position) → Sound x → Leads (allowed (reason x c) c) x y → link_count y.graph ≤ x.ledger.limit → KeepsSound x c y
 leads_kept x c y k h within = record {
   sound = record {
     simple = h.simple;
@@ -126,7 +126,7 @@ module _ (before : Ranking) (x : Position) (k : Sound x) where
   pub call_follows : (c : Call) → Follows x (after before x c)
   call_follows c = (call_leads c).follows
 
-  pub call_kept : (c : Call) → Within before x c → Kept x c (after before x c)
+  pub call_kept : (c : Call) → Within before x c → KeepsSound x c (after before x c)
   call_kept c = leads_kept x c (after before x c) k (call_leads c)
 
 pub refused_unchanged : (before : Ranking) (x : Position) (c : Call) (r : Reason) → reason x c ≡ Some r → after before x c ≡ x

@@ -37,13 +37,13 @@ abbrev pub Within : Ranking → Position → Call → Type 0
 Within before x c = link_count (after before x c).graph ≤ x.ledger.limit
 
 -- y is sound after a call on x, and few partners are others
-pub record Kept (x : Position) (c : Call) (y : Position) : Type 0 where
+pub record KeepsSound (x : Position) (c : Call) (y : Position) : Type 0 where
   pub sound : Sound y
   pub few : changes x y ≤ allowed (reason x c) c
 
 -- every call keeps a position sound and changes few partners
 abbrev pub CallsKeep : Type 0
-CallsKeep = (before : Ranking) (x : Position) → Sound x → (c : Call) → Within before x c → Kept x c (after before x c)
+CallsKeep = (before : Ranking) (x : Position) → Sound x → (c : Call) → Within before x c → KeepsSound x c (after before x c)
 
 -- a sound position has at least two thirds of the pairs of every matching
 abbrev pub SoundTwoThirds : Type 0

@@ -7,4 +7,4 @@ pub mod Health
 pub mod Theorems
 pub mod Laws
 pub mod Boards
-pub mod Mends
+pub mod FailingRepairs

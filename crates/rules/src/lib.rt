@@ -4,7 +4,7 @@
 
 ghost use Rattle.rules.specs.Boards.{Thresholds, FreshProper, Row, RowAugmenting, Six, Star, Ranked, Refusals};
 ghost use Rattle.rules.specs.Laws.{OpeningSound, CallsFollow, CallsKeep, RefusedUnchanged, SoundTwoThirds, LawOfRuns};
-ghost use Rattle.rules.specs.Mends.{InTurn, Closed, OnlyDisplaced};
+ghost use Rattle.rules.specs.FailingRepairs.{InTurn, Closed, OnlyDisplaced};
 ghost use Rattle.rules.specs.OneByOne.{LinksOneByOne};
 ghost use Rattle.rules.specs.Theorems.{ThresholdLeast, FirstLeads};
 

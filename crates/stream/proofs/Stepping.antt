@@ -24,8 +24,8 @@ use Rattle.stream.specs.Steps.{Step, call_of, answer_words, step_by, step_at, st
 pub stepping_none : (stream out : List ℕ) → stepping stream out ≡ None → (length stream ≤ 65536) × (19 ≤ length out)
 stepping_none stream out none = (grind (arith, nat_tests), grind (arith, nat_tests))
 
-none_some : {o : Option Reason} (e : Reason) → o ≡ None → o ≡ Some e → ⊥
-none_some e none some = let z : ◌≡◌ {A = ℕ} 0 1 = cc in omega arith
+pub none_some : {o : Option Reason} (e : Reason) → o ≡ None → o ≡ Some e → ⊥
+none_some e none some = none-some e (sym none ∙ some)
 
 pub fits : (text out : List ℕ) (e : Refused) → length text ≤ length out → unless_fits text out ≡ Some (told e) → ⊥
 fits text out e short = none_some (told e) (cond-false _ _ _ (le-ltb (length out) (length text) short))

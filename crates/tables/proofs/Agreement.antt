@@ -5,6 +5,7 @@ use Rattle.std.proofs.lemmas.Bool.{cases_lt, cases_eq, eq-eqb, ne_eqb, cond-fals
 use Rattle.graph.specs.Graph.{Graph, Simple}
 use Rattle.graph.specs.Matching.{Partners}
 use Rattle.graph.specs.Pairs.{is_free}
+use Rattle.graph.proofs.Partners.{none_free}
 use Rattle.graph.proofs.Paths.{free_taken}
 use Rattle.tables.specs.declared.Tables.{Tables}
 use Rattle.tables.specs.Views.{partners_of, Tracks, Agrees}
@@ -64,9 +65,6 @@ partner_set g simple a o on is {s} {u} {t} w h =
         beyond = λ x past. ap (λ (p : Partners). p x) same ∙ cond-false (eqb x a) o (partners_of s x) (ne_eqb x a (λ e. omega arith)) ∙ k.beyond x past;
       };
     }
-
-none_free : (o : Option ℕ) → o ≡ None → not (is_some o) ≡ true
-none_free o e = ap (λ (x : Option ℕ). not (is_some x)) e
 
 some_taken : (o : Option ℕ) (b : ℕ) → o ≡ Some b → not (is_some o) ≡ false
 some_taken o b e = ap (λ (x : Option ℕ). not (is_some x)) e

@@ -13,6 +13,7 @@ use Rattle.rules.specs.Repair.{Ranking}
 use Rattle.tables.specs.Views.{partners_of}
 use Rattle.board.specs.Boards.{position, Stands, Opens}
 use Rattle.board.specs.declared.Board.{Board}
+use Rattle.stream.proofs.Stepping.{none_some}
 use Rattle.stream.specs.Pairs.{lines_of, listing}
 use Rattle.stream.specs.Steps.{Step, Makes}
 use Rattle.stream.specs.declared.Stepped.{Stepped}
@@ -25,14 +26,6 @@ use Rattle.transcript.specs.declared.Failure.TheVariants.{Input, Memory}
 pub line_first : {B R : Type 0} {graph : B → Graph} {made : B → Type 0} {ledger : B → Ledger} {before : R → Ranking} {y : Step} {from : List ℕ} {r : Stepped} {t : Board B R} {out : List ℕ} →
     Makes graph made ledger before y from r t out → take r.written out ≡ y.line
 line_first {y = y} {from = from} {r = r} makes = ap (take r.written) makes.out_is ∙ take_at y.line (drop (length y.line) from) r.written (sym makes.written_is)
-
-none_some : {o : Option Reason} (e : Reason) → o ≡ None → o ≡ Some e → ⊥
-none_some e none some = let z : ◌≡◌ {A = ℕ} 0 1 = cc in omega arith
-
--- what is never refused fails for want of memory alone
-pub fails_unrefused : (why : Option Reason) (f : Failure) → Fails None f → Fails why f
-fails_unrefused why (Input e) fails = absurd (none_some (told e) refl fails)
-fails_unrefused why Memory fails = tt
 
 -- 256 loads have at most 128 pairs
 pub pairs_fit : {B R : Type 0} {graph : B → Graph} {made : B → Type 0} {ledger : B → Ledger} (s : Board B R) (out : List ℕ) (e : Reason) → Stands graph made ledger s → length out ≡ 1024 →
