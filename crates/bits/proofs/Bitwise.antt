@@ -1,10 +1,10 @@
 -- The bits of what the operations on words give.
-use Rattle.std.proofs.Common.{◌≡◌, ℕ, zero, suc, ◌+◌, ◌-◌, ◌*◌, ◌/◌, ◌%◌, ◌^◌, ◌<◌, ◌≤◌, min, max, Bool, false, cond, not, ◌&&◌, ◌||◌, eqb, w64, sym, refl, ap, ◌∙◌, ap₂, ⊎_elim, ◌⊎◌, inl, inr, mod-lt, add_comm, pow-suc, arith}
+use Rattle.std.proofs.Common.{◌≡◌, ℕ, zero, suc, ◌+◌, ◌-◌, ◌*◌, ◌/◌, ◌%◌, ◌^◌, ◌<◌, ◌≤◌, min, Bool, false, cond, not, ◌&&◌, ◌||◌, eqb, w64, sym, refl, ap, ◌∙◌, ap₂, ⊎_elim, ◌⊎◌, inl, inr, mod-lt, add_comm, pow-suc, arith}
 use lib.Bits.{bit_and, bit_or}
 use lib.Count.{count_trailing_zeros, ones, ones_in, ones_cat}
 use Rattle.std.specs.Int.{bit_at}
 use Rattle.std.proofs.lemmas.Nat.{and_le_l, pow_pos, shr_split, div_below}
-use Rattle.std.proofs.lemmas.Nat.Bits.{shr_and_one, bit_at-lt, bit_at-zero, bit_at_above, bit_at_and, bit_at_or, bit_at_cat_low, bit_at_set_same, bit_at_set_other, bit_at_clear_same, bit_at_clear_other, bit_at_mask_inside, bit_at_mask_below, bit_at-trailing_zeros, ones_shl}
+use Rattle.std.proofs.lemmas.Nat.Bits.{shr_and_one, bit_at-lt, bit_at-zero, bit_at_above, bit_at_and, bit_at_cat_low, bit_at_set_same, bit_at_set_other, bit_at_clear_same, bit_at_clear_other, bit_at_mask_inside, bit_at_mask_below, bit_at-trailing_zeros, ones_shl}
 use Rattle.std.proofs.lemmas.Bool.{cases_eq, cases_lt}
 use Rattle.std.proofs.lemmas.Bool.Decides.{nat_tests}
 use Rattle.graph.specs.Graph.{First, count}
@@ -21,22 +21,6 @@ bit_tested w k = ap is_one (shr_and_one w k)
 pub bit_zero : (j : ℕ) → bit 0 j ≡ false
 unfolding bit
 bit_zero j = ap is_one (bit_at-zero j)
-
--- ---- and, or
-
-digit_and : (x y : ℕ) → x < 2 → y < 2 → eqb (min x y) 1 ≡ (eqb x 1 && eqb y 1)
-digit_and x y l m = grind (arith, nat_tests)
-
-digit_or : (x y : ℕ) → x < 2 → y < 2 → eqb (max x y) 1 ≡ (eqb x 1 || eqb y 1)
-digit_or x y l m = grind (arith, nat_tests)
-
-bit_of_and : (a b j : ℕ) → bit (bit_and a b) j ≡ (bit a j && bit b j)
-unfolding bit
-bit_of_and a b j = ap is_one (bit_at_and a b j) ∙ digit_and (bit_at a j) (bit_at b j) (bit_at-lt a j) (bit_at-lt b j)
-
-bit_of_or : (a b j : ℕ) → bit (bit_or a b) j ≡ (bit a j || bit b j)
-unfolding bit
-bit_of_or a b j = ap is_one (bit_at_or a b j) ∙ digit_or (bit_at a j) (bit_at b j) (bit_at-lt a j) (bit_at-lt b j)
 
 -- past its 64 bits a word has none
 and_above : (w mask j : ℕ) → w < 2 ^ 64 → 64 ≤ j → bit_at (bit_and w mask) j ≡ bit_at w j

@@ -1,6 +1,5 @@
 // A link book that holds a bit for each ordered pair of loads.
-ghost use Rattle.std.specs.Prelude.{◌≡◌, ℕ, ◌*◌, ◌%◌, ◌<◌, ◌≤◌, true, false, length, is_ok, if◌then◌else◌, nat_eq, slice_index};
-ghost use Rattle.bits.specs.Bit.{bit};
+ghost use Rattle.std.specs.Prelude.{◌≡◌, ◌<◌, ◌≤◌, true, false, length, is_ok};
 ghost use Rattle.links.specs.Books.{Adds, Removes};
 ghost use Rattle.links.specs.Refusals.{Answers};
 ghost use Rattle.books.specs.Matrix.{row_words, all_words, is_place, is_link_place, matrix_row, matrix_graph, matrix_ledger, MatrixMade, rewritten, checking, Making, Written, Beyond};

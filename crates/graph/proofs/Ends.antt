@@ -1,15 +1,8 @@
 -- The two loads of a link, among all pairs of numbers.
-use Rattle.std.proofs.Common.{◌≡◌, ℕ, ◌<◌, ◌≤◌, true, false, ◌&&◌, eqb, refl, arith}
+use Rattle.std.proofs.Common.{◌≡◌, ℕ, ◌<◌, ◌≤◌, false, ◌&&◌, eqb, arith}
 use mathlib.Core.Bool.{or_comm}
-use Rattle.std.proofs.lemmas.Bool.{eq-eqb, and_from, or_left, or_right}
 use Rattle.graph.specs.Graph.{is_pair}
 use Rattle.graph.proofs.Counts.{not_pair}
-
-pub pair_here : (a b : ℕ) → is_pair a b a b ≡ true
-pair_here a b = or_left _ _ (and_from _ _ (eq-eqb a a refl) (eq-eqb b b refl))
-
-pub pair_back : (a b : ℕ) → is_pair a b b a ≡ true
-pair_back a b = or_right _ _ (and_from _ _ (eq-eqb a a refl) (eq-eqb b b refl))
 
 pub pair_swap : (a b x y : ℕ) → is_pair a b x y ≡ is_pair a b y x
 pair_swap a b x y = or_comm (eqb a x && eqb b y) (eqb a y && eqb b x)

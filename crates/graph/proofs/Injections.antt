@@ -79,8 +79,3 @@ module _ (linked : ℕ → ℕ → Bool) (loopless : (a : ℕ) → linked a a �
 
 pub handshake : (g : Graph) → Simple g → total g.size (degree g) ≡ 2 * link_count g
 handshake g s = degrees_below g.linked s.loopless s.symmetric g.size
-
--- with fewer links
-pub link_count_fewer : (g g' : Graph) → g'.size ≡ g.size → ((u v : ℕ) → g'.linked u v ≡ true → g.linked u v ≡ true) → link_count g' ≤ link_count g
-link_count_fewer g g' size less =
-    rw size (total_below g.size (λ a. count a (g'.linked a)) (λ a. count a (g.linked a)) (λ a. count_below a (g'.linked a) (g.linked a) (λ v _. less a v)))

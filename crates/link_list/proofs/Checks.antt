@@ -1,5 +1,5 @@
 -- What the check of a list finds.
-use Rattle.std.proofs.Common.{◌≡◌, ℕ, ◌<◌, Bool, false, ◌||◌, List, [], length, Some, None, Option, sym, refl, ap, ◌∙◌, ap₂, subst, ⊎_elim, arith, MatchOption}
+use Rattle.std.proofs.Common.{◌≡◌, ℕ, ◌<◌, Bool, false, ◌||◌, List, length, Some, None, Option, sym, refl, ap, ◌∙◌, ap₂, subst, ⊎_elim, arith, MatchOption}
 use Rattle.std.proofs.lemmas.Bool.{cases_lt, lt-ltb, le-ltb, and_from, and_left, and_right, not-false, not_from_true, not_from_false}
 use Rattle.std.proofs.lemmas.Bool.Decides.{nat_tests}
 use Rattle.std.specs.declared.cmp.Ordering.{Ordering}
@@ -78,11 +78,3 @@ module _ (n : ℕ) (es : List Entry) (x y : Option ℕ) (rise : RiseFound es x) 
       no_first None y rises e = rises
       no_first (Some i) None found e = never _ e
       no_first (Some i) (Some j) found e = never _ e
-
-pub sound_empty : Sound 0 []
-sound_empty =
-    record {
-      small = omega arith;
-      bounds = λ k l. absurd (omega arith);
-      rises = record { next = λ k d p l. absurd (omega arith); later = λ i j d l m. absurd (omega arith) };
-    }

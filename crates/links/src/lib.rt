@@ -2,7 +2,7 @@
 // refusals.
 #![tactic(auto)]
 
-ghost use Rattle.std.specs.Prelude.{◌≡◌, ℕ, None};
+ghost use Rattle.std.specs.Prelude.{◌≡◌, None};
 ghost use Rattle.graph.specs.Graph.{Graph, Simple, degree, link_count, Next};
 ghost use Rattle.links.specs.Books.{Ledger, Bounded, Allows, Adds, Removes, unless_within, unless_size, unless_limit, unless_two_of, adding, removing};
 ghost use Rattle.links.specs.Refusals.{Answers, told_by};
