@@ -14,8 +14,8 @@ use Rattle.board.specs.declared.Board.{Board}
 abbrev pub position : {B R : Type 0} → (B → Graph) → (B → Ledger) → Board B R → Position
 position graph ledger s = record { graph = graph s.book; ledger = ledger s.book; partners = partners_of s.tables }
 
--- the board came from opening and from there by its own calls: its book was made, its tables agree with it, and its
--- position is sound
+-- what opening on a made book gives and each call keeps: the book was made, the tables agree with it, and the position is
+-- sound
 pub record Stands {B R : Type 0} (graph : B → Graph) (made : B → Type 0) (ledger : B → Ledger) (s : Board B R) : Type 0 where
   pub book_made : made s.book
   pub agrees : Agrees (graph s.book) s.tables

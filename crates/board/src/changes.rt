@@ -1,5 +1,4 @@
 // The calls that change a board.
-ghost use Rattle.std.specs.Prelude.{◌≡◌};
 ghost use Rattle.rules.specs.Calls.{link, unlink, withdraw, depart};
 ghost use Rattle.tables.specs.Changes.{OfBook};
 ghost use Rattle.board.specs.Boards.{Steps};

@@ -1,5 +1,5 @@
 // How a board is opened on a book.
-ghost use Rattle.std.specs.Prelude.{◌≡◌, ◌+◌, ◌<◌, ◌≤◌};
+ghost use Rattle.std.specs.Prelude.{◌≡◌, ◌+◌, ◌<◌};
 ghost use Rattle.tables.specs.Changes.{OfBook};
 ghost use Rattle.board.specs.Boards.{Opens};
 ghost use Rattle.board.specs.Runs.{Law};

@@ -1,4 +1,4 @@
--- Matchings, and their augmenting paths as Hopcroft and Karp (1973) define them.
+-- Matchings, and their augmenting paths of any number of links.
 use Rattle.std.specs.Prelude.{◌≡◌, ℕ, ◌+◌, ◌%◌, ◌<◌, ◌≤◌, true, List, length, Some, None, Option, ◌≢◌, slice_index}
 use Rattle.graph.specs.Graph.{Graph}
 

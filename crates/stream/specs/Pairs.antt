@@ -31,7 +31,7 @@ pub record Lists (x : Position) (from : List ℕ) (r : Result ℕ Refused) (out 
   pub kept : Kept r from out
   pub answers : Answers (listing x from) r (λ n. (n ≡ length (lines_of x)) × (out ≡ lines_of x ++ drop n from))
 
--- the line of two loads, each in a byte
+-- the same line with both numbers taken modulo 256, so that it is that of some pair for every value
 abbrev pub narrow_line : ℕ → Option ℕ → List ℕ
 narrow_line a None = []
 narrow_line a (Some b) = cond (nat_lt a b) (pair_line (a % 256) (b % 256)) []

@@ -74,6 +74,7 @@ pub fn step<B: Book, R: Ranking>(
         Ok(Some(decoded)) => (decoded.next, play(board, decoded.command)),
         Err(refused) => (place, Err(refused)),
     };
+    // a command begins within the stream, and so its place fits in 16 bits
     let reply = answer.unwrap_or_else(|refused| Reply::No(refused, place as u16));
     let written = reply.write(out)?;
     Ok(Stepped {

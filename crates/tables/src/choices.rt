@@ -1,5 +1,4 @@
 // How a load finds a free load among those that it is linked to.
-ghost use Rattle.std.specs.Prelude.{◌≡◌};
 ghost use Rattle.tables.specs.Views.{Agrees};
 ghost use Rattle.tables.specs.Changes.{OfBook};
 ghost use Rattle.tables.specs.Choices.{FirstFree, Matched};

@@ -1,5 +1,5 @@
 // Whole texts: to a stream of commands, and back.
-ghost use Rattle.std.specs.Prelude.{◌≡◌, ◌++◌, is_ok, IfOk, string_bytes, OnOk, Some};
+ghost use Rattle.std.specs.Prelude.{◌≡◌, ◌++◌, string_bytes, OnOk, Some};
 ghost use Rattle.commands.specs.Commands.{bytes, line_of};
 ghost use Rattle.text.specs.Lines.{Means};
 ghost use Rattle.text.specs.Streams.{Appends, Encodes, full_line, Decodes, bad_text_told, bad_stream_told};

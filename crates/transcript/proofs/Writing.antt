@@ -1,12 +1,12 @@
 -- Lines that are put at the end of the text, and the text of a fresh board.
-use Rattle.std.proofs.Common.{◌≡◌, ℕ, ◌*◌, List, [], ◌++◌, length, take, drop, Some, None, Option, sym, refl, ap, ◌∙◌, ap₂, arith}
+use Rattle.std.proofs.Common.{◌≡◌, ℕ, ◌*◌, List, [], ◌++◌, length, take, drop, Some, None, Option, sym, ap, ◌∙◌, ap₂, arith}
 use Rattle.std.proofs.lemmas.List.{take_at}
 use Rattle.std.proofs.lemmas.Bool.{cond-false, le-ltb}
 use Rattle.graph.specs.Graph.{Graph, edgeless}
 use Rattle.graph.specs.Pairs.{has_partner}
 use Rattle.graph.proofs.Counts.{count_le}
 use Rattle.links.specs.Books.{Ledger, Stands as BookStands}
-use Rattle.links.specs.Refusals.{Reason, told}
+use Rattle.links.specs.Refusals.{Reason}
 use Rattle.rules.specs.Boards.{by_number, fresh_ledger}
 use Rattle.rules.specs.Calls.{Position, opened}
 use Rattle.rules.specs.Repair.{Ranking}
@@ -17,10 +17,8 @@ use Rattle.stream.proofs.Stepping.{none_some}
 use Rattle.stream.specs.Pairs.{lines_of, listing}
 use Rattle.stream.specs.Steps.{Step, Makes}
 use Rattle.stream.specs.declared.Stepped.{Stepped}
-use Rattle.transcript.specs.Texts.{Fails, Plays}
+use Rattle.transcript.specs.Texts.{Plays}
 use Rattle.transcript.specs.Transcript.{played, answered, start, transcript}
-use Rattle.transcript.specs.declared.Failure.{Failure}
-use Rattle.transcript.specs.declared.Failure.TheVariants.{Input, Memory}
 
 -- the line of a step stands at the start of the output
 pub line_first : {B R : Type 0} {graph : B → Graph} {made : B → Type 0} {ledger : B → Ledger} {before : R → Ranking} {y : Step} {from : List ℕ} {r : Stepped} {t : Board B R} {out : List ℕ} →

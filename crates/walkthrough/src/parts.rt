@@ -1,4 +1,4 @@
-// Each holder of links, the audit and the rankings at work.
+// A bit matrix, rows, a filter, the audit and the rankings at work.
 
 use audit::NO_PARTNER;
 use books::bit_matrix::BitMatrix;
@@ -12,7 +12,7 @@ use rows::SortedRows;
 use std::io;
 use telling::{answer, judge};
 
-// Links each two loads in turn.
+// Links the two loads of each pair, one pair after the other.
 fn add<B: Book>(rt: &impl Print, book: &mut B, pairs: &[(u16, u16)]) -> io::Result<()> {
     for &(a, b) in pairs {
         answer(
