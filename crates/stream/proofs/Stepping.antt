@@ -1,5 +1,6 @@
 -- A step at a place inside the stream, and what is written of it.
 use Rattle.std.proofs.Common.{◌≡◌, ℕ, ◌<◌, ◌≤◌, ltb, leb, List, ◌++◌, length, drop, Some, None, Ok, Err, codes, Option, Result, sym, refl, ap, ◌∙◌, subst, inl, inr, arith}
+use Rattle.std.proofs.lemmas.Option.{none-some}
 use Rattle.std.proofs.lemmas.Slice.{drop-append-drop}
 use Rattle.std.proofs.lemmas.Bool.{cond-true, cond-false, cases_lt, le-leb, lt-leb, le-ltb}
 use Rattle.std.proofs.lemmas.Bool.Decides.{nat_tests}
@@ -24,7 +25,7 @@ use Rattle.stream.specs.Steps.{Step, call_of, answer_words, step_by, step_at, st
 pub stepping_none : (stream out : List ℕ) → stepping stream out ≡ None → (length stream ≤ 65536) × (19 ≤ length out)
 stepping_none stream out none = (grind (arith, nat_tests), grind (arith, nat_tests))
 
-pub none_some : {o : Option Reason} (e : Reason) → o ≡ None → o ≡ Some e → ⊥
+none_some : {o : Option Reason} (e : Reason) → o ≡ None → o ≡ Some e → ⊥
 none_some e none some = none-some e (sym none ∙ some)
 
 pub fits : (text out : List ℕ) (e : Refused) → length text ≤ length out → unless_fits text out ≡ Some (told e) → ⊥

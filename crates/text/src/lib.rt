@@ -3,7 +3,7 @@
 
 ghost use Rattle.std.specs.Prelude.{◌≡◌, IfOk, string_bytes};
 ghost use Rattle.commands.specs.Commands.{line_of};
-ghost use Rattle.text.specs.Words.{unspaced, past, word as word_lem};
+ghost use Rattle.text.specs.Words.{unspaced, past, word as word_at};
 ghost use Rattle.text.specs.Lines.{command_of_one, command_of_two, command_of, meaning, Means};
 
 use commands::Command;
@@ -40,7 +40,7 @@ fn two_loads(kind: &[u8], a: u16, b: u16) -> Option<Command>
 
 // The command of the words of a line: its kind, and then one or two loads.
 fn parse_command(line: &[u8]) -> Option<Command>
-    ensures { result ≡ command_of (word_lem 0 line.now) (past 32 (unspaced line.now)) }
+    ensures { result ≡ command_of (word_at 0 line.now) (past 32 (unspaced line.now)) }
 {
     let kind = word(line, 0);
     let a = number(word(line, 1))?;

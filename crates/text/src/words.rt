@@ -1,6 +1,6 @@
 // The words of a line, split by spaces.
 ghost use Rattle.std.specs.Prelude.{◌≡◌};
-ghost use Rattle.text.specs.Words.{word as word_lem, number as number_of_lem, line_without_return};
+ghost use Rattle.text.specs.Words.{word as word_at, number as number_named, line_without_return};
 
 use std::str;
 
@@ -13,7 +13,7 @@ pub(crate) fn without_return(line: &[u8]) -> &[u8]
 
 // The word with this index, counted from 0; no bytes where there are too few words.
 pub(crate) fn word(line: &[u8], index: usize) -> &[u8]
-    ensures { result.now ≡ word_lem index line.now }
+    ensures { result.now ≡ word_at index line.now }
 {
     line.split(|byte| *byte == b' ')
         .filter(|word| !word.is_empty())
@@ -23,7 +23,7 @@ pub(crate) fn word(line: &[u8], index: usize) -> &[u8]
 
 // The load that a word of decimal digits names.
 pub(crate) fn number(word: &[u8]) -> Option<u16>
-    ensures { result ≡ number_of_lem word.now }
+    ensures { result ≡ number_named word.now }
 {
     // `parse` takes a sign too
     if !word.iter().all(|byte| byte.is_ascii_digit()) {

@@ -1,7 +1,8 @@
 -- Lines that are put at the end of the text, and the text of a fresh board.
-use Rattle.std.proofs.Common.{◌≡◌, ℕ, ◌*◌, List, [], ◌++◌, length, take, drop, Some, None, Option, sym, ap, ◌∙◌, ap₂, arith}
+use Rattle.std.proofs.Common.{◌≡◌, ℕ, ◌*◌, List, [], ◌++◌, length, take, drop, Some, sym, ap, ◌∙◌, ap₂, arith}
 use Rattle.std.proofs.lemmas.List.{take_at}
 use Rattle.std.proofs.lemmas.Bool.{cond-false, le-ltb}
+use Rattle.std.proofs.lemmas.Option.{none-some}
 use Rattle.graph.specs.Graph.{Graph, edgeless}
 use Rattle.graph.specs.Pairs.{has_partner}
 use Rattle.graph.proofs.Counts.{count_le}
@@ -13,7 +14,6 @@ use Rattle.rules.specs.Repair.{Ranking}
 use Rattle.tables.specs.Views.{partners_of}
 use Rattle.board.specs.Boards.{position, Stands, Opens}
 use Rattle.board.specs.declared.Board.{Board}
-use Rattle.stream.proofs.Stepping.{none_some}
 use Rattle.stream.specs.Pairs.{lines_of, listing}
 use Rattle.stream.specs.Steps.{Step, Makes}
 use Rattle.stream.specs.declared.Stepped.{Stepped}
@@ -31,7 +31,7 @@ pub pairs_fit : {B R : Type 0} {graph : B → Graph} {made : B → Type 0} {ledg
 pairs_fit {B} {R} {graph} {made} {ledger} s out e stood long =
     let few = stood.sound.simple.small in
     let matched = count_le (graph s.book).size (has_partner (partners_of s.tables)) in
-    none_some e (cond-false _ _ _ (le-ltb (length out) (8 * _) (omega arith)))
+    λ refused. none-some e (sym (cond-false _ _ _ (le-ltb (length out) (8 * _) (omega arith))) ∙ refused)
 
 pub started : {B R : Type 0} {graph : B → Graph} {made : B → Type 0} {ledger : B → Ledger} {before : R → Ranking} {book : B} {ranking : R} {r : Board B R} →
     before ranking ≡ by_number → BookStands graph made ledger book (edgeless 256) (fresh_ledger 256 2048) → Opens graph made ledger before book ranking r → position graph ledger r ≡ start

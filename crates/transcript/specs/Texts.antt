@@ -12,10 +12,10 @@ use Rattle.transcript.specs.Transcript.{Played, played, transcribing}
 use Rattle.transcript.specs.declared.Failure.{Failure}
 use Rattle.transcript.specs.declared.Failure.TheVariants.{Input, Memory}
 
--- the input is refused for this reason, or there is no memory
+-- the input is refused for this reason, or it is not and there is no memory
 abbrev pub Fails : Option Reason → Failure → Type 0
 Fails why (Input e) = why ≡ Some (told e)
-Fails why Memory = Unit {0}
+Fails why Memory = why ≡ None
 
 -- an answer under the reason to refuse the input, if there is one
 abbrev pub Ends : {A : Type 0} → Option Reason → Result A Failure → (A → Type 0) → Type 0

@@ -1,8 +1,7 @@
 -- Every byte that is answered to a stream: the line of each step, and then that of each pair.
-use Rattle.std.specs.Prelude.{◌≡◌, ℕ, zero, suc, ◌+◌, cond, List, [], ◌++◌, length, None, Option, ◌==◌, nat_lt}
-use Rattle.links.specs.Books.{by}
+use Rattle.std.specs.Prelude.{◌≡◌, ℕ, zero, suc, ◌+◌, cond, List, [], ◌++◌, length, None, Option, ◌==◌}
 use Rattle.links.specs.Refusals.{Reason}
-use Rattle.links.specs.declared.refusal.Layer.TheVariants.{Stream}
+use Rattle.commands.specs.Commands.{unless_short}
 use Rattle.rules.specs.Boards.{by_number, fresh}
 use Rattle.rules.specs.Calls.{Position}
 use Rattle.rules.specs.Repair.{Ranking}
@@ -44,4 +43,4 @@ transcript input = answered (played (length input) by_number start input 0)
 
 -- 3: the input is too long for a stream
 abbrev pub transcribing : List ℕ → Option Reason
-transcribing input = cond (nat_lt 65536 (length input)) (by Stream 3) None
+transcribing input = unless_short input None
