@@ -1,7 +1,7 @@
 -- The least number that serves is the threshold.
-use Rattle.std.proofs.Common.{◌≡◌, ℕ, ◌*◌, ◌/◌, ◌<◌, ◌≤◌, Option, MatchOption, Some, None, inl, inr, arith}
-use Rattle.std.specs.Option.{unwrap_or}
+use Rattle.std.proofs.Common.{◌≡◌, ℕ, ◌+◌, ◌-◌, ◌*◌, ◌<◌, ◌≤◌, inl, inr, arith}
 use Rattle.std.proofs.lemmas.Bool.{cases_lt}
+use Rattle.std.proofs.lemmas.Nat.{mul-le}
 use Rattle.rules.specs.Theorems.{Least}
 use Rattle.rules.specs.Threshold.{threshold}
 use Rattle.rules.proofs.Threshold.{threshold_least}
@@ -15,8 +15,7 @@ least_unique limit s t p q = elim (cases_lt s t) [
 least_is : (limit t : ℕ) → 2 * limit ≤ t * t → ((k : ℕ) → k < t → k * k < 2 * limit) → t ≡ threshold limit
 least_is limit t enough least = least_unique limit t (threshold limit) (record { enough = enough; least = least }) (threshold_least limit)
 
--- the first that serves among the numbers below 256, or 256
-pub first_is : (limit : ℕ) → limit ≤ 32640 → (r : Option ℕ) →
-    MatchOption r ((k : ℕ) → 0 ≤ k → k < 256 → k * k / 2 < limit) (λ t. (0 ≤ t) × (t < 256) × (limit ≤ t * t / 2) × ((k : ℕ) → 0 ≤ k → k < t → k * k / 2 < limit)) → unwrap_or r 256 ≡ threshold limit
-first_is limit h None none = least_is limit 256 (omega arith) (λ k l. let low = none k (omega arith) l in omega arith)
-first_is limit h (Some t) (_, _, enough, least) = least_is limit t (omega arith) (λ k l. let low = least k (omega arith) l in omega arith)
+-- the root of a number less than twice the limit by one, rounded down, and then one more
+pub root_rounded_up : (limit twice r : ℕ) → twice ≡ 2 * limit → 0 < twice → r * r ≤ twice - 1 → twice - 1 < (r + 1) * (r + 1) → r + 1 ≡ threshold limit
+root_rounded_up limit twice r is some low high =
+    least_is limit (r + 1) (omega (arith, is, some, high)) (λ k l. omega (arith, is, some, low, mul-le k k r r (omega (arith, l)) (omega (arith, l))))

@@ -24,11 +24,15 @@ pub struct Board<B, R> {
     tables: Tables,
 }
 
-// The least whole number whose square is at least twice the limit.
+// The least whole number whose square is at least twice the limit. Twice a limit fits 16 bits.
 fn threshold_of(limit: usize) -> usize
     ensures { limit ≤ 32640 → result ≡ threshold limit }
 {
-    (0..256).find(|&t| limit <= t * t / 2).unwrap_or(256)
+    match u16::try_from(limit.saturating_mul(2)) {
+        Ok(0) => 0,
+        Ok(twice) => usize::from((twice - 1).isqrt()) + 1,
+        Err(_) => 256,
+    }
 }
 
 // What a board's repairs go by: its links, its ranking, and the threshold by the limit of its book.
