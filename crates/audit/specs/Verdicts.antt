@@ -5,6 +5,7 @@ use Rattle.std.specs.Bool.{then_some}
 use Rattle.graph.specs.Graph.{Graph}
 use Rattle.graph.specs.Matching.{Partners}
 use Rattle.graph.specs.Pairs.{is_free}
+use Rattle.links.specs.Books.{by}
 use Rattle.links.specs.Refusals.{Reason, Answers}
 use Rattle.links.specs.declared.refusal.Layer.TheVariants.{Board}
 use Rattle.links.specs.declared.refusal.Refused.{Refused}
@@ -80,7 +81,7 @@ verdict g p =
 
 -- the reason to refuse an audit of this many claims over this many loads
 abbrev pub auditing : ℕ → ℕ → Option Reason
-auditing claims loads = cond (claims == loads) None (Some (record { number = 3; values = []; layer = Board }))
+auditing claims loads = cond (claims == loads) None (by Board 3)
 
 -- an audit answers the verdict, unless there is a reason to refuse it
 abbrev pub Audits : Graph → List ℕ → Result Verdict Refused → Type 0

@@ -1,7 +1,7 @@
 -- The graph of a list of entries, and when a list is refused.
-use Rattle.std.specs.Prelude.{◌≡◌, ℕ, zero, suc, ◌<◌, ◌≤◌, Bool, true, false, cond, ◌||◌, List, [], ◌∷◌, length, Some, None, Option, ◌==◌, nat_lt}
+use Rattle.std.specs.Prelude.{◌≡◌, ℕ, zero, suc, ◌<◌, ◌≤◌, Bool, true, false, ◌||◌, List, [], ◌∷◌, length, Some, None, Option}
 use Rattle.graph.specs.Graph.{Graph, edgeless}
-use Rattle.links.specs.Books.{by_book}
+use Rattle.links.specs.Books.{unless_size}
 use Rattle.links.specs.Refusals.{Reason}
 use Rattle.links.specs.declared.refusal.Layer.TheVariants.{Book}
 use Rattle.rise.specs.Rise.{Rises}
@@ -37,8 +37,7 @@ bad_entry (Some index) = Some (record { number = 15; values = index ∷ []; laye
 -- the first reason to refuse these entries: the number of loads, then the first entry that breaks the order or its bounds
 abbrev pub checking : ℕ → List Entry → Option Reason
 checking n es =
-    cond (n == 0 || nat_lt 256 n) (by_book 1)
-    (bad_entry (first (length es) (λ k. unordered es k || out_of_bounds n es k)))
+    unless_size n (bad_entry (first (length es) (λ k. unordered es k || out_of_bounds n es k)))
 
 -- what a making gives under the first reason to refuse, if there is one
 abbrev pub Listing : Option Reason → ℕ → List Entry → LinkList → Type 0

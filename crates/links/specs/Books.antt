@@ -31,11 +31,11 @@ abbrev pub raised : Ledger → ℕ → ℕ → Ledger
 raised l a b =
     record { limit = l.limit; barred = l.barred; spare = λ x. l.spare x + cond (a == x || b == x) 1 0; room = l.room + 1 }
 
-abbrev pub by_book : ℕ → Option Reason
-by_book number = Some (record { number = number; values = []; layer = Book })
-
 abbrev pub by : Layer → ℕ → Option Reason
 by layer number = Some (record { number = number; values = []; layer = layer })
+
+abbrev pub by_book : ℕ → Option Reason
+by_book number = by Book number
 
 -- not one of the numbers from 1 to `most`
 abbrev pub unless_within : ℕ → Option Reason → ℕ → Option Reason → Option Reason

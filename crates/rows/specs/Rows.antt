@@ -1,7 +1,7 @@
 -- A link book in rows of d + 1 numbers, one row for each load.
-use Rattle.std.specs.Prelude.{◌≡◌, ℕ, ◌+◌, ◌-◌, ◌*◌, ◌<◌, ◌≤◌, true, false, cond, ◌&&◌, ◌||◌, List, length, is_ok, Some, None, Option, Result, ◌==◌, nat_lt, slice_index}
+use Rattle.std.specs.Prelude.{◌≡◌, ℕ, ◌+◌, ◌-◌, ◌*◌, ◌<◌, ◌≤◌, true, false, cond, ◌&&◌, List, length, is_ok, Some, None, Option, Result, nat_lt, slice_index}
 use Rattle.graph.specs.Graph.{Graph, link_count, edgeless}
-use Rattle.links.specs.Books.{Ledger, by_book, unless_size, unless_limit}
+use Rattle.links.specs.Books.{Ledger, by_book, unless_within, unless_size, unless_limit}
 use Rattle.links.specs.Memory.{Cleared}
 use Rattle.links.specs.Refusals.{Reason}
 use Rattle.links.specs.declared.refusal.Refused.{Refused}
@@ -55,7 +55,7 @@ abbrev pub checking : ℕ → ℕ → ℕ → ℕ → Option Reason
 checking n d limit memory =
     unless_size n
     (unless_limit limit
-    (cond (d == 0 || nat_lt 255 d) (by_book 2)
+    (unless_within 255 (by_book 2) d
     (cond (nat_lt memory (n * (d + 1))) (by_book 3) None)))
 
 abbrev pub fresh : ℕ → ℕ → ℕ → Ledger

@@ -1,10 +1,10 @@
 -- What a board holds, and what each call answers and leaves.
-use Rattle.std.specs.Prelude.{ℕ, zero, suc, ◌+◌, cond, ◌||◌, List, [], ◌∷◌, Some, None, Option, ◌==◌, nat_le, nat_lt}
+use Rattle.std.specs.Prelude.{ℕ, zero, suc, ◌+◌, cond, List, [], ◌∷◌, Some, None, Option, ◌==◌, nat_le, nat_lt}
 use Rattle.graph.specs.Graph.{Graph, count, degree, added, removed}
 use Rattle.graph.specs.Isolated.{isolated}
 use Rattle.graph.specs.Matching.{Partners}
 use Rattle.graph.specs.Pairs.{is_free, pairs}
-use Rattle.links.specs.Books.{Ledger, lowered, raised, adding, removing}
+use Rattle.links.specs.Books.{Ledger, by, lowered, raised, unless_two_of, adding, removing}
 use Rattle.links.specs.Refusals.{Reason}
 use Rattle.links.specs.declared.refusal.Layer.TheVariants.{Board}
 use Rattle.rules.specs.Repair.{Ranking, freed, free_link, repair}
@@ -28,7 +28,7 @@ pub data Call : Type 0 where
 -- ---- when a call is refused, and why
 
 abbrev pub by_board : ℕ → Option Reason
-by_board number = Some (record { number = number; values = []; layer = Board })
+by_board number = by Board number
 
 -- 4: not a load
 abbrev pub unless_load : Graph → ℕ → Option Reason → Option Reason
@@ -36,7 +36,7 @@ unless_load g a otherwise = cond (nat_le g.size a) (by_board 4) otherwise
 
 -- 4: not two loads; 5: the same load twice
 abbrev pub unless_two : Graph → ℕ → ℕ → Option Reason → Option Reason
-unless_two g a b otherwise = cond (nat_le g.size a || nat_le g.size b) (by_board 4) (cond (a == b) (by_board 5) otherwise)
+unless_two g a b otherwise = unless_two_of Board g.size a b otherwise
 
 -- the reason to refuse a call, if there is one
 abbrev pub reason : Position → Call → Option Reason

@@ -1,16 +1,16 @@
 -- What the tables say of each load, and when they agree with a graph.
-use Rattle.std.specs.Prelude.{◌≡◌, ℕ, ◌/◌, ◌%◌, ◌≤◌, Bool, ◌&&◌, [], None, slice_index, slice_index_or}
+use Rattle.std.specs.Prelude.{◌≡◌, ℕ, ◌≤◌, Bool, ◌&&◌, [], None, slice_index_or}
 use Rattle.graph.specs.Graph.{Graph, count, degree, edgeless}
 use Rattle.graph.specs.Matching.{Partners}
 use Rattle.graph.specs.Pairs.{has_partner, is_free}
-use Rattle.bits.specs.Bit.{bit}
+use Rattle.bits.specs.Words.{member}
 use Rattle.tables.specs.declared.Record.{Record}
 use Rattle.tables.specs.declared.LoadSet.{LoadSet}
 use Rattle.tables.specs.declared.Tables.{Tables}
 
 -- the set has the load b
 abbrev pub has : LoadSet → ℕ → Bool
-has s b = bit (slice_index s.words (b / 64)) (b % 64)
+has s b = member s.words b
 
 -- what is kept of a load that is free and has no links, as of a number past the tables
 abbrev pub blank : Record
