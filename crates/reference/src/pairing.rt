@@ -32,7 +32,9 @@ pub fn threshold_of(limit: usize) -> usize
 
 impl Pairing {
     // All loads are free at first, and all are repaired.
-    pub fn open(alloc: Global, book: PlainBook, order: Order) -> Result<Pairing, AllocError> {
+    pub fn open(alloc: Global, book: PlainBook, order: Order) -> Result<Pairing, AllocError>
+        ensures { IfOk result (λ pairing. pairing.book ≡ book) }
+    {
         let size = book.size();
         let mut pairing = Pairing {
             partners: vec![in alloc; None; size]?,
@@ -70,19 +72,25 @@ impl Pairing {
         self.partner_of(a).is_none()
     }
 
-    fn set_partner(&mut self, a: usize, partner: Option<usize>) {
+    fn set_partner(&mut self, a: usize, partner: Option<usize>)
+        ensures { self.new.book ≡ self.old.book }
+    {
         if let Some(place) = self.partners.get_mut(a) {
             *place = partner;
         }
     }
 
-    pub(crate) fn pair(&mut self, a: usize, b: usize) {
+    pub(crate) fn pair(&mut self, a: usize, b: usize)
+        ensures { self.new.book ≡ self.old.book }
+    {
         self.set_partner(a, Some(b));
         self.set_partner(b, Some(a));
     }
 
     // Frees a load and its partner.
-    pub(crate) fn part(&mut self, a: usize) {
+    pub(crate) fn part(&mut self, a: usize)
+        ensures { self.new.book ≡ self.old.book }
+    {
         if let Some(b) = self.partner_of(a) {
             self.set_partner(a, None);
             self.set_partner(b, None);

@@ -63,7 +63,10 @@ impl PlainBook {
     }
 
     // Bars a pair. A link that it has is hidden: it counts as no link, and keeps its part of the spares and the room.
-    pub fn bar(&mut self, a: usize, b: usize) -> Result<(), AllocError> {
+    pub fn bar(&mut self, a: usize, b: usize) -> Result<(), AllocError>
+        ensures size { vec_len self.new.spares ≡ vec_len self.old.spares }
+        ensures limit { self.new.limit ≡ self.old.limit }
+    {
         self.barred.insert(pair(a, b))?;
         self.links.remove(&pair(a, b));
         Ok(())
@@ -71,7 +74,10 @@ impl PlainBook {
 
     // Bars the pairs of which bit j of byte i or bit i of byte j is 1, where i and j are the classes of the two loads. A class
     // above 7 counts as 7, and a load that is given none has class 0.
-    pub fn bar_classes(&mut self, classes: &[u8], bars: [u8; 8]) -> Result<(), AllocError> {
+    pub fn bar_classes(&mut self, classes: &[u8], bars: [u8; 8]) -> Result<(), AllocError>
+        ensures size { vec_len self.new.spares ≡ vec_len self.old.spares }
+        ensures limit { self.new.limit ≡ self.old.limit }
+    {
         for a in 0..self.size() {
             for b in a..self.size() {
                 let i = class_of(classes, a);
@@ -201,7 +207,10 @@ impl PlainBook {
     }
 
     // Takes out a link, and gives back what it used.
-    fn take_out(&mut self, a: usize, b: usize) {
+    fn take_out(&mut self, a: usize, b: usize)
+        ensures size { vec_len self.new.spares ≡ vec_len self.old.spares }
+        ensures limit { self.new.limit ≡ self.old.limit }
+    {
         self.links.remove(&pair(a, b));
         self.room = self.room.saturating_add(1);
         for load in [a, b] {
@@ -212,7 +221,10 @@ impl PlainBook {
     }
 
     // Removes every link of a load.
-    pub fn remove_all(&mut self, a: usize) {
+    pub fn remove_all(&mut self, a: usize)
+        ensures size { vec_len self.new.spares ≡ vec_len self.old.spares }
+        ensures limit { self.new.limit ≡ self.old.limit }
+    {
         for b in 0..self.size() {
             if self.linked(a, b) {
                 self.take_out(a, b);

@@ -1,5 +1,5 @@
 // The two phases of a repair.
-ghost use Rattle.std.specs.Prelude.{◌≤◌};
+ghost use Rattle.std.specs.Prelude.{◌≡◌, ◌≤◌};
 
 use crate::pairing::Pairing;
 
@@ -51,8 +51,10 @@ struct Path {
 }
 
 impl Pairing {
-    // Repairs these loads, which rise.
-    pub(crate) fn repair(&mut self, loads: &[usize]) {
+    // Repairs these loads, which rise. No link changes.
+    pub(crate) fn repair(&mut self, loads: &[usize])
+        ensures { self.new.book ≡ self.old.book }
+    {
         for &a in loads {
             if self.is_free(a) {
                 self.match_free(a);
@@ -83,7 +85,9 @@ impl Pairing {
         best.is_none_or(|b| self.order.detour(a, x) < self.order.detour(a, b))
     }
 
-    fn match_free(&mut self, a: usize) {
+    fn match_free(&mut self, a: usize)
+        ensures { self.new.book ≡ self.old.book }
+    {
         if let Some(b) = self.first_linked(a, |x| self.is_free(x)) {
             self.pair(a, b);
             self.repairs.matched = self.repairs.matched.saturating_add(1);
@@ -104,7 +108,9 @@ impl Pairing {
     }
 
     // Augments along the first path of three links that begins at a free load, if there is one.
-    fn augment(&mut self, a: usize) -> bool {
+    fn augment(&mut self, a: usize) -> bool
+        ensures { self.new.book ≡ self.old.book }
+    {
         let Some(path) = self.path_from(a) else {
             return false;
         };
@@ -113,7 +119,9 @@ impl Pairing {
         true
     }
 
-    fn augment_or_displace(&mut self, a: usize) {
+    fn augment_or_displace(&mut self, a: usize)
+        ensures { self.new.book ≡ self.old.book }
+    {
         if self.augment(a) {
             self.repairs.augmented = self.repairs.augmented.saturating_add(1);
         } else if self.book.degree(a) > self.threshold {
@@ -122,7 +130,9 @@ impl Pairing {
     }
 
     // Pairs a with a load whose partner has few links; the partner is freed, and a path sought from there.
-    fn displace(&mut self, a: usize) {
+    fn displace(&mut self, a: usize)
+        ensures { self.new.book ≡ self.old.book }
+    {
         let has_few = |y| self.book.degree(y) <= self.threshold;
         let Some(x) = self.first_linked(a, |x| self.partner_of(x).is_some_and(has_few)) else {
             return;

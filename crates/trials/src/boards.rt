@@ -152,8 +152,9 @@ impl Trial {
                         filtered,
                         ranking,
                     };
-                    self.play_setting(setting, kind)
-                        .context(format_args!("{kind:?}"))?;
+                    self.play_setting(setting, kind).context(format_args!(
+                        "{book:?}, filtered: {filtered}, {ranking:?}"
+                    ))?;
                 }
             }
         }
@@ -185,9 +186,9 @@ impl Trial {
     // So many boards with a load that has many links.
     pub fn hubs(&mut self, number: usize) -> Result<()> {
         for n in 0..number {
-            let size = self.random.pick(&[10, 12, 14]).unwrap_or(12);
+            let size = self.random.pick(&[12, 14, 16]).unwrap_or(12);
             let script = scripts::hub(self.alloc, &mut self.random, size)?;
-            let limit = self.random.pick(&[12, 16, 18, 24, 32]).unwrap_or(18);
+            let limit = self.random.pick(&[18, 24, 28, 32]).unwrap_or(18);
             let mut setting = Setting::scripted(
                 self.alloc,
                 &mut self.random,

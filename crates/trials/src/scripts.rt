@@ -2,6 +2,7 @@
 use crate::random::Random;
 use reference::calls::Call;
 use std::alloc::{AllocError, Global};
+use std::array;
 
 const SIX_LOADS: [(u16, u16); 6] = [(0, 1), (2, 3), (0, 2), (1, 3), (1, 5), (3, 4)];
 
@@ -27,7 +28,7 @@ fn shuffle(random: &mut Random, numbers: &mut [u16]) {
     }
 }
 
-// The loads below an even size, in a random order.
+// The loads below a size, in a random order.
 fn shuffled(alloc: Global, random: &mut Random, size: u16) -> Result<Vec<u16>, AllocError> {
     let mut loads = Vec::new(alloc);
     for load in 0..size {
@@ -37,27 +38,47 @@ fn shuffled(alloc: Global, random: &mut Random, size: u16) -> Result<Vec<u16>, A
     Ok(loads)
 }
 
+// The load at a place; past the end, load 0.
+fn at(loads: &[u16], place: usize) -> u16 {
+    loads.get(place).copied().unwrap_or(0)
+}
+
+// Puts load 0 at a place, and the load that was there at its place.
+fn put_lowest(loads: &mut [u16], place: usize) {
+    if let Some(lowest) = loads.iter().position(|load| *load == 0)
+        && place < loads.len()
+    {
+        loads.swap(lowest, place);
+    }
+}
+
 // Links a hub, which stays free, to pair after pair until it displaces a load. Some loads have a link to x, from where a path
-// leads on over its partner y to a free end; if one of these is displaced, the path is augmented.
+// leads on over its partner y to a free end; if one of these is displaced, the path is augmented. Half the time the partner of
+// load 0 has about as many links as the threshold.
 pub fn hub(alloc: Global, random: &mut Random, size: u16) -> Result<Vec<Call>, AllocError> {
-    let loads = shuffled(alloc, random, size)?;
-    let load = |place: usize| loads.get(place).copied().unwrap_or(0);
-    let (hub, end, x, y) = (load(0), load(1), load(2), load(3));
+    let mut loads = shuffled(alloc, random, size)?;
+    let busy = random.chance(50);
+    if busy {
+        put_lowest(&mut loads, 5);
+    }
+    let [hub, end, x, y]: [u16; 4] = array::from_fn(|place| at(&loads, place));
     let mut script = Vec::new(alloc);
-    for two in loads.chunks_exact(2).skip(2) {
+    for two in loads.chunks_exact(2).skip(1) {
         if let [a, b] = two {
             script.push(Call::Link(*a, *b))?;
         }
     }
-    script.push(Call::Link(x, y))?;
     script.push(Call::Link(y, end))?;
-    for a in loads.iter().skip(4) {
+    for &load in loads.iter().skip(4) {
         if random.chance(30) {
-            script.push(Call::Link(*a, x))?;
+            script.push(Call::Link(load, x))?;
+        }
+        if busy && random.chance(70) {
+            script.push(Call::Link(load, at(&loads, 4)))?;
         }
     }
-    for a in loads.iter().skip(4) {
-        script.push(Call::Link(hub, *a))?;
+    for &load in loads.iter().skip(4) {
+        script.push(Call::Link(hub, load))?;
     }
     Ok(script)
 }

@@ -19,7 +19,7 @@ pub enum RankingKind {
 }
 
 // What a board stands on.
-#[derive(Clone, Copy, PartialEq, Eq, Debug)]
+#[derive(Clone, Copy)]
 pub struct Kind {
     pub book: BookKind,
     // whether a filter of classes stands on the book
