@@ -15,8 +15,11 @@ mod setting;
 mod streams;
 mod trial;
 
+// What every number of the trials is drawn from.
+const SEED: u64 = 2_027;
+
 fn main(rt: HostRuntime) -> Result<()> {
-    let mut trial = Trial::new(rt.alloc(), 2_027);
+    let mut trial = Trial::new(rt.alloc(), SEED);
     trial.six_loads()?;
     trial.random_boards(200, 1, 16)?;
     trial.random_boards(2, 62, 66)?;
