@@ -1,0 +1,5 @@
+use Rattle.std.proofs.Common.{◌≡◌, vec_len}
+use Rattle.reference.proofs.plain_book.PlainBook.remove_all.Given as goal
+
+abbrev pub invariant-loop-b : goal.invariant-loop-b
+invariant-loop-b l = (vec_len l.self.spares ≡ vec_len l.fn.self.spares) × (l.self.limit ≡ l.fn.self.limit)

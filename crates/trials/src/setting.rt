@@ -1,0 +1,185 @@
+// What a board stands on, and which calls are made on it.
+use crate::random::Random;
+use ranking::detour::Place;
+use reference::calls::Call;
+use reference::order::Order;
+use std::alloc::{AllocError, Global};
+
+// Which book holds the links.
+#[derive(Clone, Copy, PartialEq, Eq, Debug)]
+pub enum BookKind {
+    Matrix,
+    Rows,
+}
+
+#[derive(Clone, Copy, PartialEq, Eq, Debug)]
+pub enum RankingKind {
+    ByNumber,
+    ByDetour,
+}
+
+// What a board stands on.
+#[derive(Clone, Copy)]
+pub struct Kind {
+    pub book: BookKind,
+    // whether a filter of classes stands on the book
+    pub filtered: bool,
+    pub ranking: RankingKind,
+}
+
+pub const BOOKS: [BookKind; 2] = [BookKind::Matrix, BookKind::Rows];
+
+pub const RANKINGS: [RankingKind; 2] = [RankingKind::ByNumber, RankingKind::ByDetour];
+
+// A board, the calls that are made on it first, and how many are drawn at random after them.
+#[derive(Drop)]
+pub struct Setting {
+    pub size: usize,
+    pub row_limit: usize,
+    pub limit: usize,
+    // how many links are tried before the board is opened
+    pub brought: usize,
+    pub script: Vec<Call>,
+    pub calls: usize,
+    // how many of the links in a hundred are of the highest load
+    pub hub_percent: usize,
+    pub classes: Vec<u8>,
+    pub bars: [u8; 8],
+    pub places: Vec<Place>,
+}
+
+fn draw_classes(alloc: Global, random: &mut Random, size: usize) -> Result<Vec<u8>, AllocError> {
+    let mut classes = Vec::new(alloc);
+    for _ in 0..random.below(size.saturating_add(2)) {
+        classes.push(random.byte() % 10)?;
+    }
+    Ok(classes)
+}
+
+// One coordinate: mostly small, so that many detours are equal, and at times at an end of the range.
+fn draw_coordinate(random: &mut Random) -> i32 {
+    match random.below(12) {
+        0 => i32::MIN,
+        1 => i32::MAX,
+        n => n as i32 - 6,
+    }
+}
+
+fn draw_places(alloc: Global, random: &mut Random, size: usize) -> Result<Vec<Place>, AllocError> {
+    let mut places = Vec::new(alloc);
+    for _ in 0..random.below(size.saturating_add(2)) {
+        places.push(Place {
+            x: draw_coordinate(random),
+            y: draw_coordinate(random),
+        })?;
+    }
+    Ok(places)
+}
+
+// Few bits, so that most pairs are not barred.
+fn draw_bars(random: &mut Random) -> [u8; 8] {
+    let mut bars = [0; 8];
+    for byte in bars.iter_mut() {
+        *byte = random.byte() & random.byte();
+    }
+    bars
+}
+
+// Fewer calls on a large board, on which each takes long to compare.
+fn draw_calls(random: &mut Random, size: usize) -> usize {
+    if size > 100 {
+        random.between(5, 15)
+    } else {
+        random.between(10, 60)
+    }
+}
+
+impl Setting {
+    // A board that is opened on a book without links, and whose loads may have every link.
+    pub fn scripted(
+        alloc: Global,
+        random: &mut Random,
+        size: usize,
+        limit: usize,
+        script: Vec<Call>,
+    ) -> Result<Setting, AllocError> {
+        Ok(Setting {
+            size,
+            row_limit: size.saturating_sub(1),
+            limit,
+            brought: 0,
+            script,
+            calls: 0,
+            hub_percent: 0,
+            classes: draw_classes(alloc, random, size)?,
+            bars: [0; 8],
+            places: draw_places(alloc, random, size)?,
+        })
+    }
+
+    pub fn draw(alloc: Global, random: &mut Random, size: usize) -> Result<Setting, AllocError> {
+        Ok(Setting {
+            size,
+            row_limit: random.between(size / 2, size.saturating_sub(1)).max(1),
+            limit: random.between(1, size.saturating_mul(3)),
+            brought: random.below(size),
+            script: Vec::new(alloc),
+            calls: draw_calls(random, size),
+            hub_percent: random.below(80),
+            classes: draw_classes(alloc, random, size)?,
+            bars: draw_bars(random),
+            places: draw_places(alloc, random, size)?,
+        })
+    }
+
+    // The reference's order for the ranking.
+    pub fn order(&self, alloc: Global, ranking: RankingKind) -> Result<Order, AllocError> {
+        match ranking {
+            RankingKind::ByNumber => Ok(Order::ByNumber),
+            RankingKind::ByDetour => {
+                let mut places = Vec::new(alloc);
+                for place in &self.places {
+                    places.push((place.x, place.y))?;
+                }
+                Ok(Order::ByDetour(places))
+            }
+        }
+    }
+
+    // A load, or at times one of the first two numbers past them.
+    fn draw_load(&self, random: &mut Random) -> usize {
+        if random.chance(2) {
+            self.size.saturating_add(random.below(2))
+        } else {
+            random.below(self.size)
+        }
+    }
+
+    pub fn draw_call(&self, random: &mut Random) -> Call {
+        let (a, b) = self.draw_two(random);
+        let a = u16::try_from(a).unwrap_or(u16::MAX);
+        let b = u16::try_from(b).unwrap_or(u16::MAX);
+        match random.below(100) {
+            0..70 => Call::Link(a, b),
+            70..87 => Call::Unlink(a, b),
+            87..91 => Call::Withdraw(b),
+            91..95 => Call::Depart(b),
+            _ => Call::Partner(a),
+        }
+    }
+
+    // Two loads, at times the same, and often one of them the hub.
+    pub fn draw_two(&self, random: &mut Random) -> (usize, usize) {
+        let a = if random.chance(self.hub_percent) {
+            self.size.saturating_sub(1)
+        } else {
+            self.draw_load(random)
+        };
+        let b = if random.chance(2) {
+            a
+        } else {
+            self.draw_load(random)
+        };
+        if random.chance(50) { (a, b) } else { (b, a) }
+    }
+}
