@@ -45,10 +45,8 @@ impl Board {
         if self.link_count == MOST_LINKS {
             return Err(Refusal::BookFull);
         }
-        self.links[usize::from(a)].insert(b);
-        self.links[usize::from(b)].insert(a);
-        self.degree[usize::from(a)] += 1;
-        self.degree[usize::from(b)] += 1;
+        self.add_half(a, b);
+        self.add_half(b, a);
         self.link_count += 1;
         self.repair(&[a.min(b), a.max(b)]);
         Ok(())
@@ -59,9 +57,8 @@ impl Board {
         if !self.are_linked(a, b) {
             return Err(Refusal::NotLinked);
         }
-        self.links[usize::from(a)].remove(b);
+        self.remove_half(a, b);
         self.remove_half(b, a);
-        self.degree[usize::from(a)] -= 1;
         self.link_count -= 1;
         if self.partner_of(a) == Some(b) {
             self.part(a, b);
@@ -128,10 +125,16 @@ impl Board {
         self.linked_loads(a) & self.free
     }
 
-    /// Load b loses its link to a.
-    fn remove_half(&mut self, b: u8, a: u8) {
-        self.links[usize::from(b)].remove(a);
-        self.degree[usize::from(b)] -= 1;
+    /// Load a gets its half of the link to b.
+    fn add_half(&mut self, a: u8, b: u8) {
+        self.links[usize::from(a)].insert(b);
+        self.degree[usize::from(a)] += 1;
+    }
+
+    /// Load a loses its half of the link to b.
+    fn remove_half(&mut self, a: u8, b: u8) {
+        self.links[usize::from(a)].remove(b);
+        self.degree[usize::from(a)] -= 1;
     }
 
     fn remove_links(&mut self, a: u8) {
@@ -139,8 +142,8 @@ impl Board {
             self.remove_half(b, a);
         }
         self.link_count -= usize::from(self.degree_of(a));
-        self.degree[usize::from(a)] = 0;
         self.links[usize::from(a)] = LoadSet::NONE;
+        self.degree[usize::from(a)] = 0;
     }
 
     fn pair(&mut self, a: u8, b: u8) {

@@ -1,35 +1,51 @@
-//! The streams that are measured. Each is made on a board of its own, so that it can name links that there are.
+//! The streams that are measured.
 
 use crate::board::{Board, LOADS, MOST_LINKS};
 use crate::command::{Command, LONGEST_STREAM};
 use crate::random::Random;
 use crate::transcript::play;
+use std::iter;
 
 const SEED: u64 = 1;
 
-/// The stream of this name.
+/// The stream of this name: as many whole commands as fit.
 pub fn make(name: &str) -> Option<Vec<u8>> {
-    let next: fn(&mut Maker) -> Command = match name {
-        "random" => Maker::next_random,
-        "hub" => Maker::next_of_hubs,
-        "full-book" => Maker::next_at_limit,
-        "six-loads" => Maker::next_of_sixes,
+    Some(match name {
+        "random" => fill(Maker::commands(Maker::next_random)),
+        "hub" => fill(Maker::commands(Maker::next_of_hubs)),
+        "full-book" => fill(Maker::commands(Maker::next_at_limit)),
+        "six-loads" => fill(round_of_sixes().into_iter().cycle()),
         _ => return None,
-    };
-    let mut maker = Maker::new();
-    let mut stream = Vec::new();
-    loop {
-        let command = next(&mut maker);
-        if stream.len() + command.size() > LONGEST_STREAM {
-            return Some(stream);
-        }
-        command.write(&mut stream);
-        // a refused command belongs to the stream too
-        let _ = play(&mut maker.board, command);
-        maker.made += 1;
-    }
+    })
 }
 
+fn fill(commands: impl Iterator<Item = Command>) -> Vec<u8> {
+    let mut stream = Vec::new();
+    for command in commands {
+        if stream.len() + command.size() > LONGEST_STREAM {
+            break;
+        }
+        command.write(&mut stream);
+    }
+    stream
+}
+
+/// The shape of six loads is built on each six in turn, and its first link removed; then the other links are.
+fn round_of_sixes() -> Vec<Command> {
+    const LINKS: [(u16, u16); 6] = [(0, 1), (2, 3), (0, 2), (1, 3), (1, 5), (3, 4)];
+    let sixes = (0..LOADS as u16 - 5).step_by(6);
+    let built = sixes.clone().flat_map(|six| {
+        let links = LINKS.map(|(a, b)| Command::Link(six + a, six + b));
+        links.into_iter().chain([Command::Unlink(six, six + 1)])
+    });
+    let removed = sixes.flat_map(|six| {
+        let others = LINKS.iter().skip(1);
+        others.map(move |(a, b)| Command::Unlink(six + a, six + b))
+    });
+    built.chain(removed).collect()
+}
+
+/// Makes commands on a board of its own, so that it can name links that there are.
 struct Maker {
     random: Random,
     board: Board,
@@ -37,16 +53,27 @@ struct Maker {
 }
 
 impl Maker {
-    fn new() -> Maker {
-        Maker {
+    fn commands(next: fn(&mut Maker) -> Command) -> impl Iterator<Item = Command> {
+        let mut maker = Maker {
             random: Random::new(SEED),
             board: Board::new(),
             made: 0,
-        }
+        };
+        iter::repeat_with(move || {
+            let command = next(&mut maker);
+            // a refused command belongs to the stream too
+            let _ = play(&mut maker.board, command);
+            maker.made += 1;
+            command
+        })
     }
 
     fn load(&mut self) -> u16 {
         self.random.below(LOADS as u16)
+    }
+
+    fn are_linked(&self, a: u16, b: u16) -> bool {
+        self.board.linked_loads(a as u8).has(b as u8)
     }
 
     /// Two loads that are linked, if the first that is thought of has a link.
@@ -84,20 +111,23 @@ impl Maker {
         }
     }
 
-    /// Eight loads take links with all others, and each other load with its neighbour. Of 1,000 commands 520 link a hub and
-    /// 120 neighbours, 200 unlink a hub, 5 withdraw a load that is no hub, 1 withdraws a hub, and 154 ask.
+    /// Eight hubs are linked with three quarters of the other loads, and half of these with their neighbours. Of 1,000
+    /// commands 894 are for a hub and another load: they are linked, or where they are, a third unlink them and the rest
+    /// ask. 100 do or undo a link of neighbours, 5 withdraw a load that is no hub, and 1 a hub.
     fn next_of_hubs(&mut self) -> Command {
         const HUBS: u16 = 8;
         let hub = self.random.below(HUBS);
         let other = HUBS + self.random.below(LOADS as u16 - HUBS);
+        let neighbour = other ^ 1;
         match self.random.below(1000) {
-            0..520 => Command::Link(hub, other),
-            520..640 => Command::Link(other, other ^ 1),
-            640..840 => Command::Unlink(hub, other),
-            840..845 => Command::Withdraw(other),
-            845..846 => Command::Withdraw(hub),
-            846..923 => Command::Partner(hub),
-            _ => Command::Partner(other),
+            0..894 if !self.are_linked(hub, other) => Command::Link(hub, other),
+            0..298 => Command::Unlink(hub, other),
+            298..596 => Command::Partner(hub),
+            596..894 => Command::Partner(other),
+            894..994 if !self.are_linked(other, neighbour) => Command::Link(other, neighbour),
+            894..994 => Command::Unlink(other, neighbour),
+            994..999 => Command::Withdraw(other),
+            _ => Command::Withdraw(hub),
         }
     }
 
@@ -112,29 +142,6 @@ impl Maker {
             0 => Command::Link(a, b),
             1 => self.unlink_some(),
             _ => Command::Partner(a),
-        }
-    }
-
-    /// Builds the shape of six loads on each six in turn and unlinks its first link, then removes its other links, and
-    /// goes on to the next round.
-    fn next_of_sixes(&mut self) -> Command {
-        const SIXES: usize = LOADS / 6;
-        const LINKS: [(u16, u16); 6] = [(0, 1), (2, 3), (0, 2), (1, 3), (1, 5), (3, 4)];
-        let (built, torn) = (LINKS.len() + 1, LINKS.len() - 1);
-        let in_round = self.made % (SIXES * (built + torn));
-        let building = in_round < SIXES * built;
-        let (six, i) = if building {
-            (in_round / built, in_round % built)
-        } else {
-            let rest = in_round - SIXES * built;
-            (rest / torn, rest % torn + 1)
-        };
-        let (a, b) = LINKS[i % LINKS.len()];
-        let (a, b) = (6 * six as u16 + a, 6 * six as u16 + b);
-        if building && i < LINKS.len() {
-            Command::Link(a, b)
-        } else {
-            Command::Unlink(a, b)
         }
     }
 }
