@@ -2,8 +2,8 @@
 //
 //     measure ROUNDS [PROGRAM INPUT]...
 //
-// Prints a line for each program and input: the least and the median time of the processor, in nanoseconds, and the least
-// and the median of the most memory that was resident, in kilobytes.
+// Prints a line for each program and input: the least time of the processor, in nanoseconds, that than which a tenth of the
+// rounds took less, and that than which half took less; and the median of the most memory that was resident, in kilobytes.
 #include <fcntl.h>
 #include <spawn.h>
 #include <sys/resource.h>
@@ -11,6 +11,7 @@
 #include <unistd.h>
 
 #include <algorithm>
+#include <cstddef>
 #include <cstdio>
 #include <cstdlib>
 #include <vector>
@@ -57,17 +58,22 @@ void measure(Run& run) {
     run.memories.push_back(usage.ru_maxrss);
 }
 
-void print(Run& run) {
-    const auto middle = run.times.size() / 2;
-    std::sort(run.times.begin(), run.times.end());
-    std::sort(run.memories.begin(), run.memories.end());
-    std::printf("%ld %ld %ld %ld\n", run.times[0], run.times[middle], run.memories[0], run.memories[middle]);
+long quantile(std::vector<long> values, double part) {
+    std::sort(values.begin(), values.end());
+    return values[static_cast<std::size_t>(part * values.size())];
+}
+
+void print(const Run& run) {
+    for (const double part : {0.0, 0.1, 0.5}) {
+        std::printf("%ld ", quantile(run.times, part));
+    }
+    std::printf("%ld\n", quantile(run.memories, 0.5));
 }
 
 }  // namespace
 
 int main(int argc, char** argv) {
-    if (argc < 4 || argc % 2 != 0) {
+    if (argc < 4 || argc % 2 != 0 || std::atoi(argv[1]) < 1) {
         std::fputs("usage: measure ROUNDS [PROGRAM INPUT]...\n", stderr);
         return 1;
     }
