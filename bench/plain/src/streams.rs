@@ -111,22 +111,23 @@ impl Maker {
         }
     }
 
-    /// Eight hubs are linked with three quarters of the other loads, and half of these with their neighbours. Of 1,000
-    /// commands 894 are for a hub and another load: they are linked, or where they are, a third unlink them and the rest
-    /// ask. 100 do or undo a link of neighbours, 5 withdraw a load that is no hub, and 1 a hub.
+    /// First 248 loads are linked in twos. Then seven hubs are linked with three quarters of them: of 1,000 commands 999 are
+    /// for a hub and another load, which are linked, or where they are, a third unlink them and the rest ask; and 1
+    /// withdraws a hub. The loads are odd in number, so that hubs come to be free and displace others.
     fn next_of_hubs(&mut self) -> Command {
-        const HUBS: u16 = 8;
-        let hub = self.random.below(HUBS);
-        let other = HUBS + self.random.below(LOADS as u16 - HUBS);
-        let neighbour = other ^ 1;
+        const OTHERS: u16 = 248;
+        const HUBS: u16 = 7;
+        let hub = OTHERS + self.random.below(HUBS);
+        let other = self.random.below(OTHERS);
+        if self.made < usize::from(OTHERS / 2) {
+            let a = 2 * self.made as u16;
+            return Command::Link(a, a + 1);
+        }
         match self.random.below(1000) {
-            0..894 if !self.are_linked(hub, other) => Command::Link(hub, other),
-            0..298 => Command::Unlink(hub, other),
-            298..596 => Command::Partner(hub),
-            596..894 => Command::Partner(other),
-            894..994 if !self.are_linked(other, neighbour) => Command::Link(other, neighbour),
-            894..994 => Command::Unlink(other, neighbour),
-            994..999 => Command::Withdraw(other),
+            0..999 if !self.are_linked(hub, other) => Command::Link(hub, other),
+            0..333 => Command::Unlink(hub, other),
+            333..666 => Command::Partner(hub),
+            666..999 => Command::Partner(other),
             _ => Command::Withdraw(hub),
         }
     }
