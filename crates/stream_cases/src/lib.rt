@@ -1,4 +1,4 @@
-// Examples of what the commands and the play of a stream answer, proved safe and then run.
+// Examples of what the commands, their texts and the play of a stream answer, proved safe and then run.
 #![tactic(auto)]
 
 #[cfg(test)]
@@ -9,5 +9,7 @@ mod playing;
 mod sessions;
 #[cfg(test)]
 mod steps;
+#[cfg(test)]
+mod texts;
 #[cfg(test)]
 mod two_boards;
