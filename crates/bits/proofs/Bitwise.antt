@@ -96,6 +96,20 @@ next_high w from fits small some =
       },
     )
 
+-- of a word that is not 0, unmasked
+pub next_any : (w : ℕ) → w < 2 ^ 64 → (w ≡ 0 → ⊥) → (count_trailing_zeros 64 w < 64) × First (bit w) 0 (count_trailing_zeros 64 w)
+unfolding bit
+next_any w fits some =
+    let found : (count_trailing_zeros 64 w < 64) × (bit_at w (count_trailing_zeros 64 w) ≡ 1) × ((i : ℕ) → i < count_trailing_zeros 64 w → bit_at w i ≡ 0) =
+    bit_at-trailing_zeros w64 w (omega (arith, some)) fits in (
+      found.0,
+      record {
+        past = omega arith;
+        hit = ap is_one found.1;
+        before = λ j _ m. ap is_one (found.2 j m);
+      },
+    )
+
 -- ---- how many bits
 
 digit_ones : (a : ℕ) → a < 2 → ones a ≡ cond (eqb (a % 2) 1) 1 0

@@ -4,7 +4,7 @@ use Rattle.std.specs.List.{sum_by}
 use Rattle.std.proofs.lemmas.Bool.{cases_lt}
 use Rattle.std.proofs.lemmas.List.{get_or_past}
 use Rattle.std.proofs.lemmas.List.Sums.{sum_by-cons}
-use Rattle.graph.specs.Graph.{count}
+use Rattle.graph.specs.Graph.{First, count}
 use Rattle.graph.proofs.Counts.{count_ext, count_add}
 use Rattle.bits.specs.Bit.{bit}
 use Rattle.bits.specs.Words.{member}
@@ -50,3 +50,27 @@ NoneIn words from end = (b : ℕ) → from ≤ b → b < end → member words b 
 
 pub none_all : (words : List ℕ) (from end : ℕ) → 64 * length words ≤ end → NoneIn words from end → (b : ℕ) → from ≤ b → member words b ≡ false
 none_all words from end m none b h = ⊎_elim (λ l. none b h l) (λ l. member_past words b (omega arith)) (cases_lt b end)
+
+-- a word that is 0 has none
+pub none_more : (words : List ℕ) (from k : ℕ) → get_or words k 0 ≡ 0 → NoneIn words from (64 * k) → NoneIn words from (64 * (k + 1))
+none_more words from k empty none b h l =
+    ⊎_elim
+    (λ m. none b h m)
+    (λ m. let word : b / 64 ≡ k = omega arith in
+    ap (λ (x : ℕ). bit (get_or words x 0) (b % 64)) word ∙ ap (λ (x : ℕ). bit x (b % 64)) empty ∙ bit_zero (b % 64))
+    (cases_lt b (64 * k))
+
+-- the first of word k is the next one, where the words before it have none
+pub first_later : (words : List ℕ) (from k j : ℕ) → from ≤ 64 * k → NoneIn words from (64 * k) → (j < 64) × First (bit (get_or words k 0)) 0 j → First (member words) from (64 * k + j)
+first_later words from k j start none found =
+    record {
+      past = omega arith;
+      hit = member_at words k j found.0 ∙ found.1.hit;
+      before = λ b h l.
+          ⊎_elim
+          (λ m. none b h m)
+          (λ m. let word : b / 64 ≡ k = omega arith in
+          let place : b % 64 < j = omega arith in
+          ap (λ (x : ℕ). bit (get_or words x 0) (b % 64)) word ∙ found.1.before (b % 64) (omega arith) place)
+          (cases_lt b (64 * k));
+    }

@@ -69,10 +69,18 @@ pub fn next_member(words: &[u64], from: usize) -> Option<usize>
     ensures next { length words.now ≤ 1024 → Next (member words.now) from result }
     ensures bound { IfSome result (λ b. b < 64 * length words.now) }
 {
-    for k in from / 64..words.len().min(LONGEST_ROW) {
-        // in the words after that of `from` the search begins at bit 0
-        if let Some(j) = next_bit(words[k], from.saturating_sub(64 * k)) {
-            return Some(64 * k + j);
+    let first = from / 64;
+    if first >= words.len() {
+        return None;
+    }
+    // only this word has to be masked: the later ones have no number below `from`
+    if let Some(j) = next_bit(words[first], from % 64) {
+        return Some(64 * first + j);
+    }
+    for k in first + 1..words.len().min(LONGEST_ROW) {
+        let word = words[k];
+        if word != 0 {
+            return Some(64 * k + word.trailing_zeros() as usize);
         }
     }
     None
