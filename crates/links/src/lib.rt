@@ -59,6 +59,11 @@ pub trait Links {
 pub trait Book: Links {
     ghost ledger: { Self → Ledger };
 
+    // what no call changes, on any value: of lent memory, whose it is, how long, and what lies past the need
+    ghost Fixed: { Type 0 };
+
+    ghost fixed: { Self → Fixed };
+
     // The most links that the book ever has.
     fn limit(&self) -> usize
         ensures value { Self.Links.made self.now → result ≡ (ledger self.now).limit }
@@ -77,11 +82,13 @@ pub trait Book: Links {
 
     // Adds the link of a and b.
     fn add(&mut self, a: usize, b: usize) -> Result<(), Refused>
-        ensures { Adds Self.Links.graph Self.Links.made ledger self.old a b result self.new };
+        ensures adds { Adds Self.Links.graph Self.Links.made ledger self.old a b result self.new }
+        ensures stays { fixed self.new ≡ fixed self.old };
 
     // Removes the link of a and b.
     fn remove(&mut self, a: usize, b: usize) -> Result<(), Refused>
-        ensures { Removes Self.Links.graph Self.Links.made ledger self.old a b result self.new };
+        ensures removes { Removes Self.Links.graph Self.Links.made ledger self.old a b result self.new }
+        ensures stays { fixed self.new ≡ fixed self.old };
 }
 
 // Whether n is one of the numbers from 1 to `most`; a book refuses any other by this refusal.
