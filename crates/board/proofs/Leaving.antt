@@ -20,7 +20,7 @@ use Rattle.tables.specs.Views.{partners_of, Agrees}
 use Rattle.tables.specs.Changes.{OfBook, Relinking, Parting}
 use Rattle.board.specs.declared.Board.{Board}
 use Rattle.board.specs.Boards.{Stands as BoardStands}
-use Rattle.board.specs.Leaving.{InStep, RemovesLinks}
+use Rattle.board.specs.Leaving.{LinksRemoved, RemovesLinks}
 use Rattle.board.proofs.Stripped.{stripped_simple, strip_more, strip_all}
 
 module _ (g : Graph) (simple : Simple g) (a from b : ℕ) (next : First (g.linked a) from b) where
@@ -34,14 +34,23 @@ module _ (g : Graph) (simple : Simple g) (a from b : ℕ) (next : First (g.linke
   next_removable : removing g a b ≡ None
   next_removable = two_granted Book g.size a b _ next_two ∙ cond-true (g.linked a b) _ _ next.hit
 
-module _ {B : Type 0} (graph : B → Graph) (made : B → Type 0) (ledger : B → Ledger) (g : Graph) (simple : Simple g) (l : Ledger) (a : ℕ) (p : Partners) where
-  -- the links of a with the loads below `from` are removed
-  abbrev pub RemovedBelow : ℕ → B → Tables → Type 0
-  RemovedBelow from s u = (from ≤ g.size) × InStep graph made ledger (stripped g a from) (stripped_ledger g l a from) p s u
+module _ {B : Type 0} (graph : B → Graph) (made : B → Type 0) (ledger : B → Ledger) (a : ℕ) (start : B) (before : Tables) (simple : Simple (graph start)) where
+  abbrev g : Graph
+  g = graph start
+
+  abbrev l : Ledger
+  l = ledger start
+
+  -- the links of a with the loads below `from` are removed, from the book `start` and from the tables `before`
+  pub record RemovedBelow (from : ℕ) (s : B) (u : Tables) : Type 0 where
+    pub within : from ≤ g.size
+    pub book : Stands graph made ledger s (stripped g a from) (stripped_ledger g l a from)
+    pub agrees : Agrees g before → Agrees (stripped g a from) u
+    pub partners : partners_of u ≡ partners_of before
 
   module _ (from : ℕ) (s : B) (u : Tables) (so_far : RemovedBelow from s u) where
     pub now_simple : Simple (graph s)
-    now_simple = subst Simple (sym so_far.1.book.graph_is) (stripped_simple g a simple from)
+    now_simple = subst Simple (sym so_far.book.graph_is) (stripped_simple g a simple from)
 
     -- a link that the walk comes to can be removed
     pub never_refused : (b : ℕ) → First ((graph s).linked a) from b → (r : Reason) → removing (graph s) a b ≡ Some r → ⊥
@@ -52,38 +61,52 @@ module _ {B : Type 0} (graph : B → Graph) (made : B → Type 0) (ledger : B �
     remove_more b next t v book relinked =
         let k = stripped g a from in
         let k-simple = stripped_simple g a simple from in
-        let so = so_far.1 in
-        let first = subst (λ (h : Graph). First (h.linked a) from b) so.book.graph_is next in
+        let first = subst (λ (h : Graph). First (h.linked a) from b) so_far.book.graph_is next in
         let two = next_two k k-simple a from b first in
-        let more = strip_more g a from b first l in (
-          omega (arith, two.b_below, stripped_size g simple a from),
-          record {
-            book = record {
-              graph_is = book.graph_is ∙ ap (λ (h : Graph). removed h a b) so.book.graph_is ∙ more.0;
-              ledger_is = book.ledger_is ∙ ap (λ (m : Ledger). raised m a b) so.book.ledger_is ∙ more.1;
-              still_made = book.still_made;
-            };
-            agrees = subst (λ (h : Graph). Agrees h v) more.0
-                (relinked.agrees k k-simple two.a_below two.b_below two.apart first.hit so.agrees);
-            partners = relinked.partners ∙ so.partners;
-          },
-        )
-
-    pub remove_all : ((j : ℕ) → from ≤ j → (graph s).linked a j ≡ false) → InStep graph made ledger (isolated g a) (released g l a) p s u
-    remove_all none =
-        let so = so_far.1 in
-        let past = subst (λ (h : Graph). (j : ℕ) → from ≤ j → h.linked a j ≡ false) so.book.graph_is none in
-        let all = strip_all g a simple from so_far.0 past l in
+        let more = strip_more g a from b first l in
         record {
-          book = record { graph_is = so.book.graph_is ∙ all.0; ledger_is = so.book.ledger_is ∙ all.1; still_made = so.book.still_made };
-          agrees = subst (λ (h : Graph). Agrees h u) all.0 so.agrees;
-          partners = so.partners;
+          within = omega (arith, two.b_below, stripped_size g simple a from);
+          book = record {
+            graph_is = book.graph_is ∙ ap (λ (h : Graph). removed h a b) so_far.book.graph_is ∙ more.0;
+            ledger_is = book.ledger_is ∙ ap (λ (m : Ledger). raised m a b) so_far.book.ledger_is ∙ more.1;
+            still_made = book.still_made;
+          };
+          agrees = λ agrees. subst (λ (h : Graph). Agrees h v) more.0
+              (relinked.agrees k k-simple two.a_below two.b_below two.apart first.hit (so_far.agrees agrees));
+          partners = relinked.partners ∙ so_far.partners;
+        }
+
+    pub remove_all : ((j : ℕ) → from ≤ j → (graph s).linked a j ≡ false) → LinksRemoved graph made ledger a start before s u
+    remove_all none =
+        let past = subst (λ (h : Graph). (j : ℕ) → from ≤ j → h.linked a j ≡ false) so_far.book.graph_is none in
+        let all = strip_all g a simple from so_far.within past l in
+        record {
+          book = record { graph_is = so_far.book.graph_is ∙ all.0; ledger_is = so_far.book.ledger_is ∙ all.1; still_made = so_far.book.still_made };
+          agrees = λ agrees. subst (λ (h : Graph). Agrees h u) all.0 (so_far.agrees agrees);
+          partners = so_far.partners;
         }
 
 -- ---- what a book and tables that are in step become
 
+-- the book s stands for the graph g and the ledger l, and the tables u agree with g and have the partners p
+pub record InStep {B : Type 0} (graph : B → Graph) (made : B → Type 0) (ledger : B → Ledger) (g : Graph) (l : Ledger) (p : Partners) (s : B) (u : Tables) : Type 0 where
+  pub book : Stands graph made ledger s g l
+  pub agrees : Agrees g u
+  pub partners : partners_of u ≡ p
+
 pub fewer_links : (g : Graph) → Simple g → (a : ℕ) → a < g.size → link_count (isolated g a) ≤ link_count g
 fewer_links g simple a below = omega (arith, link_count_isolated g a simple below)
+
+-- the links of a load removed from a book that stood for a graph and a ledger
+pub book_left : {B : Type 0} (graph : B → Graph) (made : B → Type 0) (ledger : B → Ledger) (g : Graph) → Simple g → (l : Ledger) (a : ℕ) (s : B) (u : Tables) →
+    Stands graph made ledger s g l → (t : B) (v : Tables) → RemovesLinks graph made ledger a s u t v → Stands graph made ledger t (isolated g a) (released g l a)
+book_left graph made ledger g simple l a s u book t v removes =
+    let done = removes book.still_made (subst Simple (sym book.graph_is) simple) in
+    record {
+      graph_is = done.book.graph_is ∙ ap (λ (h : Graph). isolated h a) book.graph_is;
+      ledger_is = done.book.ledger_is ∙ (λ i. released (book.graph_is i) (book.ledger_is i) a);
+      still_made = done.book.still_made;
+    }
 
 module _ {B R : Type 0} (graph : B → Graph) (made : B → Type 0) (ledger : B → Ledger) (s : Board B R) (stands : BoardStands graph made ledger s) where
   pub in_step : InStep graph made ledger (graph s.book) (ledger s.book) (partners_of s.tables) s.book s.tables
@@ -113,17 +136,12 @@ module _ {B : Type 0} (graph : B → Graph) (made : B → Type 0) (ledger : B �
   agrees_now : Agrees (graph s) u
   agrees_now = subst (λ (h : Graph). Agrees h u) (sym so.book.graph_is) so.agrees
 
-  pub links_removed : (a : ℕ) → a < g.size → (t : B) (v : Tables) → RemovesLinks graph made ledger a s u t v → InStep graph made ledger (isolated g a) (released g l a) p t v
-  links_removed a below t v removes =
-      let book = so.book in
-      let done = removes book.still_made graph_simple (subst (λ (h : Graph). a < h.size) (sym book.graph_is) below) agrees_now in
+  pub links_removed : (a : ℕ) (t : B) (v : Tables) → RemovesLinks graph made ledger a s u t v → InStep graph made ledger (isolated g a) (released g l a) p t v
+  links_removed a t v removes =
+      let done = removes so.book.still_made graph_simple in
       record {
-        book = record {
-          graph_is = done.book.graph_is ∙ ap (λ (h : Graph). isolated h a) book.graph_is;
-          ledger_is = done.book.ledger_is ∙ (λ i. released (book.graph_is i) (book.ledger_is i) a);
-          still_made = done.book.still_made;
-        };
-        agrees = subst (λ (h : Graph). Agrees (isolated h a) v) book.graph_is done.agrees;
+        book = book_left graph made ledger g simple l a s u so.book t v removes;
+        agrees = subst (λ (h : Graph). Agrees (isolated h a) v) so.book.graph_is (done.agrees agrees_now);
         partners = done.partners ∙ so.partners;
       }
 

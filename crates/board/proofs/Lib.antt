@@ -2,11 +2,11 @@ pub mod Thresholds
 pub mod Recording
 pub mod Numbers
 pub mod Opened
-pub mod Granting
-pub mod Linked
-pub mod Unlinked
 pub mod Stripped
 pub mod Leaving
+pub mod Steps
+pub mod Linked
+pub mod Unlinked
 pub mod Withdrawn
 pub mod Departed
 pub mod Runs

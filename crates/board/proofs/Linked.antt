@@ -7,7 +7,7 @@ use Rattle.graph.proofs.Changes.{added_simple}
 use Rattle.links.specs.Books.{Ledger, Bounded, adding, lowered, Stands as BookStands}
 use Rattle.links.specs.declared.refusal.Layer.TheVariants.{Board as BoardLayer}
 use Rattle.links.proofs.Reasons.{two_granted, adding_none}
-use Rattle.rules.specs.Calls.{link, in_order}
+use Rattle.rules.specs.Calls.{link, reason, in_order}
 use Rattle.rules.specs.Repair.{Ranking, repair}
 use Rattle.rules.specs.Threshold.{threshold}
 use Rattle.tables.specs.declared.Tables.{Tables}
@@ -15,19 +15,25 @@ use Rattle.tables.specs.Views.{partners_of}
 use Rattle.tables.specs.Changes.{Relinking}
 use Rattle.repair.specs.Holds.{Changes}
 use Rattle.board.specs.declared.Board.{Board}
-use Rattle.board.specs.Boards.{Stands, Leads}
-use Rattle.board.proofs.Granting.{repaired_leads}
+use Rattle.board.specs.Boards.{position, Stands, FollowsBook, FollowsRules}
+use Rattle.board.proofs.Steps.{granted_book, repaired_rules}
 
 matching_added : (g : Graph) (a b : ℕ) (p : Partners) → Matching g p → Matching (added g a b) p
 matching_added g a b p m = record { returned = m.returned; linked = λ x y e. or_left (g.linked x y) (is_pair a b x y) (m.linked x y e) }
 
-module _ {B R : Type 0} (graph : B → Graph) (made : B → Type 0) (ledger : B → Ledger) (before : R → Ranking) (s : Board B R) (a b : ℕ) where
-  pub linked_leads : Stands graph made ledger s → adding (graph s.book) (ledger s.book) a b ≡ None →
-      (t : Board B R) → BookStands graph made ledger t.book (added (graph s.book) a b) (lowered (ledger s.book) a b) →
-      (n : ℕ) → n ≡ threshold (ledger t.book).limit → Bounded (graph t.book) (ledger t.book) → (u : Tables) → Relinking true a b s.tables u →
+module _ {B R : Type 0} (graph : B → Graph) (made : B → Type 0) (ledger : B → Ledger) (before : R → Ranking) (s : Board B R) (a b : ℕ)
+    (none : adding (graph s.book) (ledger s.book) a b ≡ None) (t : Board B R) (book : BookStands graph made ledger t.book (added (graph s.book) a b) (lowered (ledger s.book) a b)) where
+  granted : reason (position graph ledger s) (link a b) ≡ None
+  granted = let g = graph s.book in let l = ledger s.book in
+      two_granted BoardLayer g.size a b (adding g l a b) (adding_none g l a b none).two ∙ none
+
+  pub linked_book : FollowsBook graph made ledger (before s.ranking) s (link a b) (Ok tt) t
+  linked_book = granted_book graph made ledger before s (link a b) granted tt t _ refl book
+
+  pub linked_rules : Stands graph made ledger s → (n : ℕ) → n ≡ threshold (ledger t.book).limit → Bounded (graph t.book) (ledger t.book) → (u : Tables) → Relinking true a b s.tables u →
       (Simple (graph t.book) → Changes (graph t.book) (repair (before s.ranking) n (graph t.book) (in_order a b)) u t.tables) →
-      Leads graph made ledger (before s.ranking) s (link a b) (Ok tt) t
-  linked_leads stands none t book n n-is bounded u relinked change =
+      FollowsRules graph made ledger (before s.ranking) s (link a b) (Ok tt) t
+  linked_rules stands n n-is bounded u relinked change =
       let g = graph s.book in
       let l = ledger s.book in
       let p = partners_of s.tables in
@@ -35,9 +41,8 @@ module _ {B R : Type 0} (graph : B → Graph) (made : B → Type 0) (ledger : B 
       let addable = adding_none g l a b none in
       let two = addable.two in
       let simple-added = added_simple g a b simple two.apart two.a_below two.b_below in
-      repaired_leads graph made ledger before s (link a b) stands (two_granted BoardLayer g.size a b (adding g l a b) two ∙ none) t
-      (added g a b) (lowered l a b) (in_order a b) p u n refl (record {
+      repaired_rules graph made ledger before s (link a b) granted tt t stands refl (added g a b) (lowered l a b) (in_order a b) p refl u (record {
         book = book;
         agrees = relinked.agrees g simple two.a_below two.b_below two.apart addable.off stands.agrees;
         partners = relinked.partners;
-      }) n-is bounded (matching_added g a b p stands.sound.healthy.matching) (change (subst Simple (sym book.graph_is) simple-added))
+      }) n n-is bounded (matching_added g a b p stands.sound.healthy.matching) (change (subst Simple (sym book.graph_is) simple-added))

@@ -6,7 +6,7 @@ use Rattle.graph.proofs.Changes.{removed_simple}
 use Rattle.links.specs.Books.{Ledger, Bounded, removing, raised, Stands as BookStands}
 use Rattle.links.specs.declared.refusal.Layer.TheVariants.{Board as BoardLayer}
 use Rattle.links.proofs.Reasons.{two_granted, removing_none}
-use Rattle.rules.specs.Calls.{unlink, in_order, parted}
+use Rattle.rules.specs.Calls.{unlink, reason, in_order, parted}
 use Rattle.rules.specs.Repair.{Ranking, repair}
 use Rattle.rules.specs.Threshold.{threshold}
 use Rattle.rules.proofs.Fewer.{parted_is}
@@ -15,18 +15,23 @@ use Rattle.tables.specs.Views.{partners_of, Agrees}
 use Rattle.tables.specs.Changes.{Relinking}
 use Rattle.repair.specs.Holds.{Changes}
 use Rattle.board.specs.declared.Board.{Board}
-use Rattle.board.specs.Boards.{Stands, Leads}
+use Rattle.board.specs.Boards.{position, Stands, FollowsBook, FollowsRules}
 use Rattle.board.specs.Parting.{PartsPartners}
-use Rattle.board.proofs.Granting.{repaired_leads}
+use Rattle.board.proofs.Steps.{granted_book, repaired_rules}
 
-module _ {B R : Type 0} (graph : B → Graph) (made : B → Type 0) (ledger : B → Ledger) (before : R → Ranking) (s : Board B R) (a b : ℕ) where
-  pub unlinked_leads : Stands graph made ledger s → removing (graph s.book) a b ≡ None →
-      (t : Board B R) → BookStands graph made ledger t.book (removed (graph s.book) a b) (raised (ledger s.book) a b) →
-      (n : ℕ) → n ≡ threshold (ledger t.book).limit → Bounded (graph t.book) (ledger t.book) → (u w : Tables) → Relinking false a b s.tables u →
+module _ {B R : Type 0} (graph : B → Graph) (made : B → Type 0) (ledger : B → Ledger) (before : R → Ranking) (s : Board B R) (a b : ℕ)
+    (none : removing (graph s.book) a b ≡ None) (t : Board B R) (book : BookStands graph made ledger t.book (removed (graph s.book) a b) (raised (ledger s.book) a b)) where
+  granted : reason (position graph ledger s) (unlink a b) ≡ None
+  granted = let g = graph s.book in two_granted BoardLayer g.size a b (removing g a b) (removing_none g a b none).two ∙ none
+
+  pub unlinked_book : FollowsBook graph made ledger (before s.ranking) s (unlink a b) (Ok tt) t
+  unlinked_book = granted_book graph made ledger before s (unlink a b) granted tt t _ refl book
+
+  pub unlinked_rules : Stands graph made ledger s → (n : ℕ) → n ≡ threshold (ledger t.book).limit → Bounded (graph t.book) (ledger t.book) → (u w : Tables) → Relinking false a b s.tables u →
       (Simple (graph t.book) → PartsPartners (graph t.book) a b u w) →
       (Simple (graph t.book) → Changes (graph t.book) (repair (before s.ranking) n (graph t.book) (in_order a b)) w t.tables) →
-      Leads graph made ledger (before s.ranking) s (unlink a b) (Ok tt) t
-  unlinked_leads stands none t book n n-is bounded u w relinked parts change =
+      FollowsRules graph made ledger (before s.ranking) s (unlink a b) (Ok tt) t
+  unlinked_rules stands n n-is bounded u w relinked parts change =
       let g = graph s.book in
       let p = partners_of s.tables in
       let simple = stands.sound.simple in
@@ -40,9 +45,9 @@ module _ {B R : Type 0} (graph : B → Graph) (made : B → Type 0) (ledger : B 
       let agrees = relinked.agrees g simple in-a in_b two.apart removable.on stands.agrees in
       let back = subst (λ (q : Partners). q a ≡ Some b → q b ≡ Some a) (sym relinked.partners) (matching.returned a b) in
       let done = parts simple-removed (omega arith) (omega arith) two.apart back (subst (λ (k : Graph). Agrees k u) (sym book.graph_is) agrees) in
-      repaired_leads graph made ledger before s (unlink a b) stands (two_granted BoardLayer g.size a b (removing g a b) two ∙ none) t
-      (removed g a b) (raised (ledger s.book) a b) (in_order a b) (parted a b p (p a)) w n refl (record {
+      repaired_rules graph made ledger before s (unlink a b) granted tt t stands refl
+      (removed g a b) (raised (ledger s.book) a b) (in_order a b) (parted a b p (p a)) refl w (record {
         book = book;
         agrees = subst (λ (k : Graph). Agrees k w) book.graph_is done.agrees;
         partners = done.partners ∙ ap (λ (q : Partners). parted a b q (q a)) relinked.partners;
-      }) n-is bounded (parted_is g a b p matching).matching (change simple-removed)
+      }) n n-is bounded (parted_is g a b p matching).matching (change simple-removed)

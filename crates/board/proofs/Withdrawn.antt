@@ -1,5 +1,5 @@
 -- A load withdrawn.
-use Rattle.std.proofs.Common.{◌≡◌, ℕ, [], ◌∷◌, Some, None, Ok, Option, sym, ap, subst, arith}
+use Rattle.std.proofs.Common.{◌≡◌, ℕ, [], ◌∷◌, Some, None, Ok, Option, sym, refl, ap, subst, arith}
 use Rattle.graph.specs.Graph.{Graph, Simple}
 use Rattle.graph.specs.Isolated.{isolated}
 use Rattle.graph.proofs.Changes.{isolated_simple}
@@ -14,45 +14,50 @@ use Rattle.tables.specs.Views.{partners_of}
 use Rattle.tables.specs.Changes.{OfBook, Parting}
 use Rattle.repair.specs.Holds.{Changes}
 use Rattle.board.specs.declared.Board.{Board}
-use Rattle.board.specs.Boards.{Stands, Leads}
-use Rattle.board.specs.Leaving.{InStep, RemovesLinks}
-use Rattle.board.proofs.Granting.{granted_leads, repaired_leads}
-use Rattle.board.proofs.Leaving.{fewer_links, in_step, partners_two, links_removed, partners_parted}
+use Rattle.board.specs.Boards.{Stands, FollowsBook, FollowsRules}
+use Rattle.board.specs.Leaving.{RemovesLinks}
+use Rattle.board.proofs.Steps.{granted_book, granted_rules, repaired_rules}
+use Rattle.board.proofs.Leaving.{InStep, fewer_links, book_left, in_step, partners_two, links_removed, partners_parted}
 
-module _ {B R : Type 0} (graph : B → Graph) (made : B → Type 0) (ledger : B → Ledger) (before : R → Ranking) (s : Board B R) (stands : Stands graph made ledger s)
+module _ {B R : Type 0} (graph : B → Graph) (made : B → Type 0) (ledger : B → Ledger) (before : R → Ranking) (s : Board B R)
     (a : ℕ) (none : unless_load (graph s.book) a None ≡ None) (t : Board B R) where
-  links_left : (u : Tables) → RemovesLinks graph made ledger a s.book s.tables t.book u →
-      InStep graph made ledger (isolated (graph s.book) a) (released (graph s.book) (ledger s.book) a) (partners_of s.tables) t.book u
-  links_left u =
-      links_removed graph made ledger (graph s.book) stands.sound.simple (ledger s.book) (partners_of s.tables) s.book s.tables (in_step graph made ledger s stands)
-      a (load_none (graph s.book) a None none).0 t.book u
+  abbrev g : Graph
+  g = graph s.book
 
   abbrev as_by_rules : Option ℕ → Position
-  as_by_rules o = repaired (before s.ranking) (isolated (graph s.book) a) (released (graph s.book) (ledger s.book) a) (the_one o) (parted_from a (partners_of s.tables) o)
+  as_by_rules o = repaired (before s.ranking) (isolated g a) (released g (ledger s.book) a) (the_one o) (parted_from a (partners_of s.tables) o)
 
-  pub withdrawn_free : partners_of s.tables a ≡ None → RemovesLinks graph made ledger a s.book s.tables t.book t.tables →
-      Leads graph made ledger (before s.ranking) s (withdraw a) (Ok tt) t
-  withdrawn_free free removes =
-      let g = graph s.book in
-      let fewer = fewer_links g stands.sound.simple a (load_none g a None none).0 in
-      granted_leads graph made ledger before s (withdraw a) stands none t (isolated g a) (released g (ledger s.book) a) (partners_of s.tables)
-      (links_left t.tables removes) (omega (arith, fewer, stands.sound.bounded.within)) (ap as_by_rules free)
+  pub withdrawn_book : made s.book → Simple g → (u : Tables) → RemovesLinks graph made ledger a s.book s.tables t.book u →
+      FollowsBook graph made ledger (before s.ranking) s (withdraw a) (Ok tt) t
+  withdrawn_book m simple u removes =
+      granted_book graph made ledger before s (withdraw a) none tt t (as_by_rules (partners_of s.tables a)) refl (removes m simple).book
 
-  pub withdrawn_partner : (b : ℕ) → partners_of s.tables a ≡ Some b → (u v : Tables) → RemovesLinks graph made ledger a s.book s.tables t.book u →
-      OfBook (made t.book) (graph t.book) (λ h. Parting h a b u v) →
-      (n : ℕ) → (made t.book → n ≡ threshold (ledger t.book).limit) → (made t.book → Bounded (graph t.book) (ledger t.book)) →
-      OfBook (made t.book) (graph t.book) (λ h. Changes h (repair (before s.ranking) n h (the_one (Some b))) v t.tables) →
-      Leads graph made ledger (before s.ranking) s (withdraw a) (Ok tt) t
-  withdrawn_partner b pair u v removes parts n n-is bounded change =
-      let g = graph s.book in
-      let p = partners_of s.tables in
-      let h = isolated g a in
-      let l = released g (ledger s.book) a in
-      let simple = isolated_simple g a stands.sound.simple in
-      let matching = stands.sound.healthy.matching in
-      let left = links_left u removes in
-      let still = left.book.still_made in
-      repaired_leads graph made ledger before s (withdraw a) stands none t h l (b ∷ []) (freed a (freed b p)) v n (ap as_by_rules pair)
-      (partners_parted graph made ledger h simple l p t.book u left a b (partners_two graph made ledger s stands a b pair) pair (matching.returned a b pair) v parts)
-      (n-is still) (bounded still) (withdraw_fewer g stands.sound.simple a p matching (Some b) pair).matching
-      (change still (subst Simple (sym left.book.graph_is) simple))
+  module _ (stands : Stands graph made ledger s) where
+    links_left : (u : Tables) → RemovesLinks graph made ledger a s.book s.tables t.book u →
+        InStep graph made ledger (isolated g a) (released g (ledger s.book) a) (partners_of s.tables) t.book u
+    links_left = links_removed graph made ledger g stands.sound.simple (ledger s.book) (partners_of s.tables) s.book s.tables (in_step graph made ledger s stands) a t.book
+
+    pub withdrawn_free : partners_of s.tables a ≡ None → RemovesLinks graph made ledger a s.book s.tables t.book t.tables →
+        FollowsRules graph made ledger (before s.ranking) s (withdraw a) (Ok tt) t
+    withdrawn_free free removes =
+        let fewer = fewer_links g stands.sound.simple a (load_none g a None none).0 in
+        granted_rules graph made ledger before s (withdraw a) none tt t stands refl (isolated g a) (released g (ledger s.book) a) (partners_of s.tables) (ap as_by_rules free)
+        (links_left t.tables removes) (omega (arith, fewer, stands.sound.bounded.within))
+
+    pub withdrawn_partner : (b : ℕ) → partners_of s.tables a ≡ Some b → (u v : Tables) → RemovesLinks graph made ledger a s.book s.tables t.book u →
+        OfBook (made t.book) (graph t.book) (λ h. Parting h a b u v) →
+        (n : ℕ) → (made t.book → n ≡ threshold (ledger t.book).limit) → (made t.book → Bounded (graph t.book) (ledger t.book)) →
+        OfBook (made t.book) (graph t.book) (λ h. Changes h (repair (before s.ranking) n h (the_one (Some b))) v t.tables) →
+        FollowsRules graph made ledger (before s.ranking) s (withdraw a) (Ok tt) t
+    withdrawn_partner b pair u v removes parts n n-is bounded change =
+        let p = partners_of s.tables in
+        let h = isolated g a in
+        let l = released g (ledger s.book) a in
+        let simple = isolated_simple g a stands.sound.simple in
+        let matching = stands.sound.healthy.matching in
+        let left = links_left u removes in
+        let still = left.book.still_made in
+        repaired_rules graph made ledger before s (withdraw a) none tt t stands refl h l (b ∷ []) (freed a (freed b p)) (ap as_by_rules pair) v
+        (partners_parted graph made ledger h simple l p t.book u left a b (partners_two graph made ledger s stands a b pair) pair (matching.returned a b pair) v parts)
+        n (n-is still) (bounded still) (withdraw_fewer g stands.sound.simple a p matching (Some b) pair).matching
+        (change still (subst Simple (sym left.book.graph_is) simple))

@@ -1,4 +1,5 @@
 // The calls that change a board.
+ghost use Rattle.std.specs.Prelude.{◌≡◌};
 ghost use Rattle.rules.specs.Calls.{link, unlink, withdraw, depart};
 ghost use Rattle.tables.specs.Changes.{OfBook};
 ghost use Rattle.board.specs.Boards.{Steps};
@@ -22,7 +23,10 @@ fn part_partners<L: Links>(tables: &mut Tables, links: &L, a: usize, b: usize)
 // Removes all links of a load, whose partner stays as it is. It ends for every value of the book. The book changes at each
 // link, so the next one is asked of the book as it is then.
 fn remove_links<B: Book>(book: &mut B, tables: &mut Tables, a: usize)
-    ensures { RemovesLinks B.Links.graph B.Links.made B.Book.ledger a book.old tables.old book.new tables.new }
+    ensures removes {
+        RemovesLinks B.Links.graph B.Links.made B.Book.ledger a book.old tables.old book.new tables.new
+    }
+    ensures stays { B.Book.fixed book.new ≡ B.Book.fixed book.old }
 {
     let mut from = 0;
     while let Some(b) = book.next_linked(a, from) {
@@ -41,7 +45,10 @@ impl<B: Book, R: Ranking> Board<B, R> {
     // Links a and b, and repairs the matching at both. It looks at the links of the two loads, and at those of the at most
     // six loads whose partner changes.
     pub fn link(&mut self, a: usize, b: usize) -> Result<(), Refused>
-        ensures { Steps B.Links.graph B.Links.made B.Book.ledger R.Ranking.before self.old (link a b) result self.new }
+        ensures {
+            Steps B.Links.graph B.Links.made B.Book.ledger B.Book.fixed R.Ranking.before
+            self.old (link a b) result self.new
+        }
     {
         check_two(self.book.size(), a, b, Layer::Board)?;
         self.book.add(a, b)?;
@@ -53,7 +60,10 @@ impl<B: Book, R: Ranking> Board<B, R> {
     // Unlinks a and b, which part if they are partners, and repairs the matching at both. It looks at the links of the two
     // loads, and at those of the at most twelve loads whose partner changes.
     pub fn unlink(&mut self, a: usize, b: usize) -> Result<(), Refused>
-        ensures { Steps B.Links.graph B.Links.made B.Book.ledger R.Ranking.before self.old (unlink a b) result self.new }
+        ensures {
+            Steps B.Links.graph B.Links.made B.Book.ledger B.Book.fixed R.Ranking.before
+            self.old (unlink a b) result self.new
+        }
     {
         check_two(self.book.size(), a, b, Layer::Board)?;
         self.book.remove(a, b)?;
@@ -66,7 +76,10 @@ impl<B: Book, R: Ranking> Board<B, R> {
     // Withdraws a load: all its links are removed, and the partner that it had is repaired. It looks at the links of the
     // load, and at those of the at most seven loads whose partner changes.
     pub fn withdraw(&mut self, a: usize) -> Result<(), Refused>
-        ensures { Steps B.Links.graph B.Links.made B.Book.ledger R.Ranking.before self.old (withdraw a) result self.new }
+        ensures {
+            Steps B.Links.graph B.Links.made B.Book.ledger B.Book.fixed R.Ranking.before
+            self.old (withdraw a) result self.new
+        }
     {
         self.check_load(a)?;
         let partner = self.tables.partner(a);
@@ -81,7 +94,10 @@ impl<B: Book, R: Ranking> Board<B, R> {
     // A load departs with its partner: all links of both are removed, and nothing is repaired. It looks at the links of
     // the two loads.
     pub fn depart(&mut self, a: usize) -> Result<(), Refused>
-        ensures { Steps B.Links.graph B.Links.made B.Book.ledger R.Ranking.before self.old (depart a) result self.new }
+        ensures {
+            Steps B.Links.graph B.Links.made B.Book.ledger B.Book.fixed R.Ranking.before
+            self.old (depart a) result self.new
+        }
     {
         self.check_load(a)?;
         let Some(b) = self.tables.partner(a) else {

@@ -2,6 +2,7 @@
 #![tactic(auto)]
 
 ghost use Rattle.std.specs.Prelude.{◌≡◌, ◌≤◌, None};
+ghost use Rattle.graph.specs.Graph.{Simple};
 ghost use Rattle.links.specs.Books.{Bounded};
 ghost use Rattle.links.specs.Refusals.{Answers};
 ghost use Rattle.rules.specs.Calls.{unless_load};
@@ -47,7 +48,11 @@ fn repair_of<'a, B: Book, R: Ranking>(book: &'a B, ranking: &'a R) -> Repair<'a,
 
 impl<B: Book, R: Ranking> Board<B, R> {
     fn check_load(&self, a: usize) -> Result<(), Refused>
-        ensures { B.Links.made self.now.book → Answers (unless_load (B.Links.graph self.now.book) a None) result (λ _. Unit {0}) }
+        ensures load {
+            B.Links.made self.now.book →
+            Answers (unless_load (B.Links.graph self.now.book) a None) result (λ _. Unit {0})
+        }
+        ensures simple { B.Links.made self.now.book → Simple (B.Links.graph self.now.book) }
     {
         if a < self.book.size() {
             Ok(())

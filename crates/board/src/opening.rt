@@ -37,7 +37,10 @@ impl<B: Book, R: Ranking> Board<B, R> {
     // is the only call that does.
     pub fn open(book: B, ranking: R) -> Board<B, R>
         ensures opens { Opens B.Links.graph B.Links.made B.Book.ledger R.Ranking.before book ranking result }
-        ensures law { B.Links.made book → Law B.Links.graph B.Links.made B.Book.ledger R.Ranking.before result }
+        ensures law {
+            B.Links.made book →
+            Law B.Links.graph B.Links.made B.Book.ledger B.Book.fixed R.Ranking.before result
+        }
     {
         let size = book.size().min(256);
         let loads: [usize; 256] = array::from_fn(|load| load);

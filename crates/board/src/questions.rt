@@ -1,47 +1,60 @@
 // What can be asked of a board. Each question looks at the record or the set of one load, or at a count that is kept.
 ghost use Rattle.std.specs.Prelude.{◌≡◌};
-ghost use Rattle.rules.specs.Calls.{ask_partner, ask_free_links, partner_of, free_links_of};
-ghost use Rattle.board.specs.Boards.{Told, ToldNext, ToldPairs};
+ghost use Rattle.rules.specs.Calls.{ask_partner, ask_free_links, ask_next_free, ask_pairs};
+ghost use Rattle.board.specs.Boards.{Steps};
 
 use crate::Board;
 use links::{Book, Refused};
 use ranking::Ranking;
 
 impl<B: Book, R: Ranking> Board<B, R> {
-    // The partner of a load, if it has one.
+    /// The partner of a load, if it has one. Refused with 4 (board) where `a` is not a load.
     pub fn partner(&self, a: usize) -> Result<Option<usize>, Refused>
-        ensures { Told B.Links.graph B.Links.made B.Book.ledger self.now (ask_partner a) result (λ x. partner_of x a) }
+        ensures {
+            Steps B.Links.graph B.Links.made B.Book.ledger B.Book.fixed R.Ranking.before
+            self.now (ask_partner a) result self.now
+        }
     {
         self.check_load(a)?;
         Ok(self.tables.partner(a))
     }
 
-    // The number of free loads that a load is linked to.
+    /// How many free loads a load is linked to. Refused with 4 (board) where `a` is not a load.
     pub fn free_links(&self, a: usize) -> Result<usize, Refused>
-        ensures { Told B.Links.graph B.Links.made B.Book.ledger self.now (ask_free_links a) result (λ x. free_links_of x a) }
+        ensures {
+            Steps B.Links.graph B.Links.made B.Book.ledger B.Book.fixed R.Ranking.before
+            self.now (ask_free_links a) result self.now
+        }
     {
         self.check_load(a)?;
         Ok(self.tables.free_links(a))
     }
 
-    // The smallest free load at or above `from` that a load is linked to.
+    /// The smallest free load at or above `from` that a load is linked to, if there is one. Refused with 4 (board) where `a`
+    /// is not a load.
     pub fn next_free_link(&self, a: usize, from: usize) -> Result<Option<usize>, Refused>
-        ensures { ToldNext B.Links.graph B.Links.made B.Book.ledger self.now a from result }
+        ensures {
+            Steps B.Links.graph B.Links.made B.Book.ledger B.Book.fixed R.Ranking.before
+            self.now (ask_next_free a from) result self.now
+        }
     {
         self.check_load(a)?;
         Ok(self.tables.next_free_linked(a, from))
     }
 
-    // The book, whose links and spares can be asked for.
+    /// The book, whose links and spares can be asked for.
     pub fn book(&self) -> &B
         ensures { result.now ≡ self.now.book }
     {
         &self.book
     }
 
-    // The number of pairs.
+    /// The number of pairs. It looks at every load.
     pub fn pairs(&self) -> usize
-        ensures { ToldPairs B.Links.graph B.Links.made B.Book.ledger self.now result }
+        ensures {
+            Steps B.Links.graph B.Links.made B.Book.ledger B.Book.fixed R.Ranking.before
+            self.now ask_pairs (Ok result) self.now
+        }
     {
         self.tables.matched() / 2
     }

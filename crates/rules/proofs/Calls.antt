@@ -8,7 +8,7 @@ use Rattle.links.specs.Books.{Ledger, Bounded, adding, removing}
 use Rattle.links.specs.Refusals.{Reason}
 use Rattle.links.specs.declared.refusal.Layer.TheVariants.{Board}
 use Rattle.links.proofs.Reasons.{two_none, adding_none, removing_none}
-use Rattle.rules.specs.Calls.{Position, Call, link, unlink, withdraw, depart, ask_partner, ask_free_links, ask_pairs, reason, granted, unless, after, opened}
+use Rattle.rules.specs.Calls.{Position, Call, link, unlink, withdraw, depart, ask_partner, ask_free_links, ask_next_free, ask_pairs, reason, granted, unless, after, opened}
 use Rattle.rules.specs.Health.{Healthy, Sound, Follows}
 use Rattle.rules.specs.Laws.{most, allowed, Within, KeepsSound}
 use Rattle.rules.specs.Repair.{Ranking}
@@ -118,6 +118,7 @@ module _ (before : Ranking) (x : Position) (k : Sound x) where
   granted_leads (depart a) none = depart_leads a (load_none x.graph a _ none).0
   granted_leads (ask_partner a) none = nothing 0 x k
   granted_leads (ask_free_links a) none = nothing 0 x k
+  granted_leads (ask_next_free a from) none = nothing 0 x k
   granted_leads ask_pairs none = nothing 0 x k
 
   call_leads : (c : Call) → Leads (allowed (reason x c) c) x (after before x c)

@@ -14,6 +14,7 @@ pub mod CallChanges
 pub mod Reasons
 pub mod Ledgers
 pub mod Calls
+pub mod Questions
 pub mod Runs
 pub mod Boards
 pub mod OneByOne

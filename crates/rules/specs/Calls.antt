@@ -1,5 +1,5 @@
 -- What a board holds, and what each call answers and leaves.
-use Rattle.std.specs.Prelude.{ℕ, zero, suc, ◌+◌, cond, List, [], ◌∷◌, Some, None, Option, ◌==◌, nat_le, nat_lt}
+use Rattle.std.specs.Prelude.{ℕ, zero, suc, ◌+◌, Bool, true, false, cond, ◌&&◌, List, [], ◌∷◌, Some, None, Option, ◌==◌, nat_le, nat_lt}
 use Rattle.graph.specs.Graph.{Graph, count, degree, added, removed}
 use Rattle.graph.specs.Isolated.{isolated}
 use Rattle.graph.specs.Matching.{Partners}
@@ -7,6 +7,8 @@ use Rattle.graph.specs.Pairs.{is_free, pairs}
 use Rattle.links.specs.Books.{Ledger, by, lowered, raised, unless_two_of, adding, removing}
 use Rattle.links.specs.Refusals.{Reason}
 use Rattle.links.specs.declared.refusal.Layer.TheVariants.{Board}
+use Rattle.ranking.specs.Order.{lower}
+use Rattle.rules.specs.First.{first}
 use Rattle.rules.specs.Repair.{Ranking, freed, free_link, repair}
 use Rattle.rules.specs.Threshold.{threshold}
 
@@ -15,7 +17,8 @@ pub record Position : Type 0 where
   pub ledger : Ledger
   pub partners : Partners
 
--- the changes, and the questions: the partner of a load, its free links, the number of pairs
+-- the changes, and the questions: the partner of a load, how many free loads it is linked to, the smallest of these at or
+-- above a number, and how many pairs there are
 pub data Call : Type 0 where
   link : ℕ → ℕ → Call
   unlink : ℕ → ℕ → Call
@@ -23,7 +26,19 @@ pub data Call : Type 0 where
   depart : ℕ → Call
   ask_partner : ℕ → Call
   ask_free_links : ℕ → Call
+  ask_next_free : ℕ → ℕ → Call
   ask_pairs : Call
+
+-- a question changes nothing
+abbrev pub is_question : Call → Bool
+is_question (link a b) = false
+is_question (unlink a b) = false
+is_question (withdraw a) = false
+is_question (depart a) = false
+is_question (ask_partner a) = true
+is_question (ask_free_links a) = true
+is_question (ask_next_free a from) = true
+is_question ask_pairs = true
 
 -- ---- when a call is refused, and why
 
@@ -46,9 +61,10 @@ reason x (withdraw a) = unless_load x.graph a None
 reason x (depart a) = unless_load x.graph a (cond (is_free x.partners a) (by_board 11) None)
 reason x (ask_partner a) = unless_load x.graph a None
 reason x (ask_free_links a) = unless_load x.graph a None
+reason x (ask_next_free a from) = unless_load x.graph a None
 reason x ask_pairs = None
 
--- ---- what a question answers
+-- ---- what a granted call answers
 
 abbrev pub partner_of : Position → ℕ → Option ℕ
 partner_of x a = x.partners a
@@ -56,8 +72,33 @@ partner_of x a = x.partners a
 abbrev pub free_links_of : Position → ℕ → ℕ
 free_links_of x a = count x.graph.size (free_link x.graph x.partners a)
 
+-- the smallest free load at or above `from` that a is linked to
+abbrev pub next_free_of : Position → ℕ → ℕ → Option ℕ
+next_free_of x a from = first lower x.graph.size (λ z. free_link x.graph x.partners a z && nat_le from z)
+
 abbrev pub pairs_of : Position → ℕ
 pairs_of x = pairs x.graph.size x.partners
+
+-- a change answers nothing but that it was made
+abbrev pub Answer : Call → Type 0
+Answer (link a b) = Unit {0}
+Answer (unlink a b) = Unit {0}
+Answer (withdraw a) = Unit {0}
+Answer (depart a) = Unit {0}
+Answer (ask_partner a) = Option ℕ
+Answer (ask_free_links a) = ℕ
+Answer (ask_next_free a from) = Option ℕ
+Answer ask_pairs = ℕ
+
+abbrev pub answer : Position → (c : Call) → Answer c
+answer x (link a b) = tt
+answer x (unlink a b) = tt
+answer x (withdraw a) = tt
+answer x (depart a) = tt
+answer x (ask_partner a) = partner_of x a
+answer x (ask_free_links a) = free_links_of x a
+answer x (ask_next_free a from) = next_free_of x a from
+answer x ask_pairs = pairs_of x
 
 -- ---- where a change leads
 
@@ -115,6 +156,7 @@ granted before x (depart a) = record {
 }
 granted before x (ask_partner a) = x
 granted before x (ask_free_links a) = x
+granted before x (ask_next_free a from) = x
 granted before x ask_pairs = x
 
 -- a refused call leaves the position as it was

@@ -3,7 +3,7 @@ use Rattle.std.specs.Prelude.{◌≡◌, ℕ, ◌+◌, ◌≤◌, Some, None, Op
 use Rattle.graph.specs.Graph.{Graph, Simple, link_count}
 use Rattle.links.specs.Books.{Ledger, Bounded}
 use Rattle.links.specs.Refusals.{Reason}
-use Rattle.rules.specs.Calls.{Position, Call, link, unlink, withdraw, depart, ask_partner, ask_free_links, ask_pairs, reason, after, opened}
+use Rattle.rules.specs.Calls.{Position, Call, link, unlink, withdraw, depart, ask_partner, ask_free_links, ask_next_free, ask_pairs, reason, after, opened}
 use Rattle.rules.specs.Health.{Sound, TwoThirds, Follows, changes}
 use Rattle.rules.specs.Repair.{Ranking}
 
@@ -15,6 +15,7 @@ most (withdraw a) = 7
 most (depart a) = 2
 most (ask_partner a) = 0
 most (ask_free_links a) = 0
+most (ask_next_free a from) = 0
 most ask_pairs = 0
 
 -- a refused call changes none

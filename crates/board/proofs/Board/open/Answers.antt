@@ -32,5 +32,5 @@ returns g c =
     (c.recorded-tables.ensures made simple same_size) change) in
     record {
       opens = opening;
-      law = λ made. law g.B.Links.graph g.B.Links.made g.B.Book.ledger g.R.Ranking.before _ (opening.stands made);
+      law = λ made. law g.B.Links.graph g.B.Links.made g.B.Book.ledger g.B.Book.fixed g.R.Ranking.before _ (opening.stands made);
     }
