@@ -38,7 +38,7 @@ module _ {B R F : Type 0} (graph : B → Graph) (made : B → Type 0) (ledger : 
         fixed_is = step.fixed_is ∙ so_far.fixed_is;
       }
 
-  by_rules : (s : Board B R) → Stands graph made ledger s → (c : Call) (r : Result (Answer c) Refused) (t : Board B R) → Steps graph made ledger fixed before s c r t →
+  pub by_rules : (s : Board B R) → Stands graph made ledger s → (c : Call) (r : Result (Answer c) Refused) (t : Board B R) → Steps graph made ledger fixed before s c r t →
       ByRules graph made ledger fixed before (before s.ranking) s c r t
   by_rules s stands c r t step =
       let x = position graph ledger s in

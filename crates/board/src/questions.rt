@@ -1,5 +1,5 @@
 // What can be asked of a board. Each question looks at the record or the set of one load, or at a count that is kept.
-ghost use Rattle.std.specs.Prelude.{◌≡◌};
+ghost use Rattle.std.specs.Prelude.{◌≡◌, ◌<◌, IfOk, IfSome};
 ghost use Rattle.rules.specs.Calls.{ask_partner, ask_free_links, ask_next_free, ask_pairs};
 ghost use Rattle.board.specs.Boards.{Steps};
 
@@ -10,10 +10,11 @@ use ranking::Ranking;
 impl<B: Book, R: Ranking> Board<B, R> {
     /// The partner of a load, if it has one. Refused with 4 (board) where `a` is not a load.
     pub fn partner(&self, a: usize) -> Result<Option<usize>, Refused>
-        ensures {
+        ensures answers {
             Steps B.Links.graph B.Links.made B.Book.ledger B.Book.fixed R.Ranking.before
             self.now (ask_partner a) result self.now
         }
+        ensures bound { IfOk result (λ o. IfSome o (λ b. b < 256)) }
     {
         self.check_load(a)?;
         Ok(self.tables.partner(a))

@@ -1,3 +1,3 @@
-mod Playing
-mod Stepping
-mod Listing
+pub mod Replies
+pub mod Stepping
+pub mod Listing

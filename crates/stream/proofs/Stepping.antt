@@ -1,26 +1,28 @@
--- A step at a place inside the stream, and what is written of it.
-use Rattle.std.proofs.Common.{◌≡◌, ℕ, ◌<◌, ◌≤◌, ltb, leb, List, ◌++◌, length, drop, Some, None, Ok, Err, codes, Option, Result, sym, refl, ap, ◌∙◌, subst, inl, inr, arith}
+-- A step, by what is read at its place, and what is written of it.
+use Rattle.std.proofs.Common.{◌≡◌, ℕ, ◌+◌, ◌<◌, ◌≤◌, ltb, leb, List, [], ◌++◌, length, drop, Some, None, Ok, Err, codes, Option, Result, sym, refl, ap, ◌∙◌, subst, inl, inr, arith}
 use Rattle.std.proofs.lemmas.Option.{none-some}
-use Rattle.std.proofs.lemmas.Slice.{drop-append-drop}
-use Rattle.std.proofs.lemmas.Bool.{cond-true, cond-false, cases_lt, le-leb, lt-leb, le-ltb}
+use Rattle.std.proofs.lemmas.Bool.{cond-true, cond-false, cases_lt, le-leb, lt-leb, leb-true, leb-false, le-ltb}
 use Rattle.std.proofs.lemmas.Bool.Decides.{nat_tests}
 use Rattle.graph.specs.Graph.{Graph}
 use Rattle.links.specs.Books.{Ledger}
-use Rattle.links.specs.Refusals.{Reason, told}
+use Rattle.links.specs.Outputs.{unless_fits, Writes}
+use Rattle.links.specs.Refusals.{Reason, Answers, told}
 use Rattle.links.specs.declared.refusal.Refused.{Refused}
-use Rattle.rules.specs.Calls.{Position, reason, after}
+use Rattle.rules.specs.Calls.{Position, Answer, reason, answer, after}
 use Rattle.rules.specs.Repair.{Ranking}
-use Rattle.board.specs.Boards.{position, Stands}
+use Rattle.board.specs.Boards.{position, Stands, Steps as BoardSteps}
 use Rattle.board.specs.declared.Board.{Board}
-use Rattle.commands.specs.Commands.{decoding, decoded, followed, Reads, Spans}
+use Rattle.board.proofs.Runs.{by_rules}
+use Rattle.commands.specs.Commands.{bytes, decoding, decoded, followed, read_at, Reads, Spans}
+use Rattle.commands.specs.declared.Command.{Command}
 use Rattle.commands.specs.declared.Decoded.{Decoded}
 use Rattle.commands.proofs.Reading.{reading_inside}
-use Rattle.links.specs.Outputs.{unless_fits, Writes}
-use Rattle.replies.specs.Lines.{line, refusal_words}
+use Rattle.replies.specs.Lines.{words, line, refusal_words}
 use Rattle.replies.specs.declared.Reply.{Reply}
 use Rattle.replies.specs.declared.Reply.TheVariants.{No}
-use Rattle.stream.specs.Replying.{reply_at, Plays}
-use Rattle.stream.specs.Steps.{Step, call_of, answer_words, step_by, step_at, stepping, Makes, Steps}
+use Rattle.stream.specs.Replies.{call_of, reply_to, reply_at, on_granted, CarriesOut}
+use Rattle.stream.specs.Steps.{Found, at_end, no_command, command, found_by, found_at, answer_words, words_by, Step, step_of, step_at, stepping, WritesLine, Plays, Takes, Makes, Steps}
+use Rattle.stream.specs.declared.Stepped.{Stepped}
 
 pub stepping_none : (stream out : List ℕ) → stepping stream out ≡ None → (length stream ≤ 65536) × (19 ≤ length out)
 stepping_none stream out none = (grind (arith, nat_tests), grind (arith, nat_tests))
@@ -31,11 +33,20 @@ none_some e none some = none-some e (sym none ∙ some)
 pub fits : (text out : List ℕ) (e : Refused) → length text ≤ length out → unless_fits text out ≡ Some (told e) → ⊥
 fits text out e short = none_some (told e) (cond-false _ _ _ (le-ltb (length out) (length text) short))
 
-module _ (before : Ranking) (x : Position) (stream : List ℕ) (place : ℕ) where
-  step_inside : place < length stream → step_at before x stream place ≡ step_by before x (decoded (drop place stream)) place (decoding (drop place stream))
-  step_inside inside = cond-false _ _ _ (lt-leb (length stream) place inside)
+-- ---- what stands at the place
 
 module _ (stream : List ℕ) (place : ℕ) (short : length stream ≤ 65536) where
+  found_inside : place < length stream → found_at stream place ≡ found_by (decoding (drop place stream)) (decoded (drop place stream))
+  found_inside inside = cond-false _ _ _ (lt-leb (length stream) place inside)
+
+  pub found_end : Reads stream place (Ok None) → found_at stream place ≡ at_end
+  found_end reads = elim (cases_lt place (length stream)) [
+    | inl inside ↦
+        let some = cond-false (leb (length stream) place) None (Some (followed place (decoded (drop place stream)))) (lt-leb (length stream) place inside) in
+        absurd (none-some (followed place (decoded (drop place stream))) (reads.1 ∙ some))
+    | inr past ↦ cond-true _ _ _ (le-leb (length stream) place past)
+  ]
+
   -- a command was read
   decoded_same : (d : Decoded) → Reads stream place (Ok (Some d)) → Spans stream place d → d ≡ followed place (decoded (drop place stream))
   decoded_same d reads spans =
@@ -43,82 +54,122 @@ module _ (stream : List ℕ) (place : ℕ) (short : length stream ≤ 65536) whe
       let same = reads.1 ∙ inside in
       cc
 
-  step_command : (before : Ranking) (x : Position) (d : Decoded) → Reads stream place (Ok (Some d)) → Spans stream place d →
-      step_at before x stream place ≡ record { position = after before x (call_of d.command); place = d.next; line = answer_words x d.command place ++ codes "\n" }
-  step_command before x d reads spans =
+  pub found_command : (d : Decoded) → Reads stream place (Ok (Some d)) → Spans stream place d → found_at stream place ≡ command d.command
+  found_command d reads spans =
       let inside : place < length stream = omega (arith, spans.ahead, spans.within) in
       let known = sym (reading_inside stream place short inside) ∙ reads.0 in
-      step_inside before x stream place inside ∙ ap (step_by before x (decoded (drop place stream)) place) known
-      ∙ ap (λ (f : Decoded). record { position = after before x (call_of f.command); place = f.next; line = answer_words x f.command place ++ codes "\n" }) (sym (decoded_same d reads spans))
+      found_inside inside ∙ ap (λ (o : Option Reason). found_by o (decoded (drop place stream))) known
+      ∙ ap (λ (e : Decoded). command e.command) (sym (decoded_same d reads spans))
+
+  pub next_is : (d : Decoded) → Reads stream place (Ok (Some d)) → Spans stream place d → d ≡ followed place d.command
+  next_is d reads spans = let same = decoded_same d reads spans in same ∙ ap (λ (e : Decoded). followed place e.command) (sym same)
 
   -- what stands there is no command
-  step_refused : (before : Ranking) (x : Position) (e : Refused) → Reads stream place (Err e) →
-      step_at before x stream place ≡ record { position = x; place = place; line = refusal_words (told e) place ++ codes "\n" }
-  step_refused before x e reads =
-      elim (cases_lt place (length stream)) [
-        | inl inside ↦
-            let known = sym (reading_inside stream place short inside) ∙ reads in
-            step_inside before x stream place inside ∙ ap (step_by before x (decoded (drop place stream)) place) known
-        | inr past ↦
-            let ended = cond-false (ltb 65536 (length stream)) _ _ (le-ltb 65536 (length stream) short) ∙ cond-true (leb (length stream) place) _ _ (le-leb (length stream) place past) in
-            absurd (none_some (told e) ended reads)
-      ]
+  pub found_refused : (e : Refused) → Reads stream place (Err e) → found_at stream place ≡ no_command (told e)
+  found_refused e reads = elim (cases_lt place (length stream)) [
+    | inl inside ↦
+        let known = sym (reading_inside stream place short inside) ∙ reads in
+        found_inside inside ∙ ap (λ (o : Option Reason). found_by o (decoded (drop place stream))) known
+    | inr past ↦
+        let ended = cond-false (ltb 65536 (length stream)) _ _ (le-ltb 65536 (length stream) short) ∙ cond-true (leb (length stream) place) _ _ (le-leb (length stream) place past) in
+        absurd (none_some (told e) ended reads)
+  ]
 
-module _ {B R : Type 0} (graph : B → Graph) (made : B → Type 0) (ledger : B → Ledger) (before : R → Ranking) where
-  -- at a place, the board s has this reply, and is t after it, with the place `next`
+-- ---- what is answered
+
+-- a reply, or the refusal that is replied to the command at a place
+abbrev pub replied_at : ℕ → Result Reply Refused → Reply
+replied_at place (Ok reply) = reply
+replied_at place (Err e) = No e place
+
+replied_same : (c : Command) (place : ℕ) (r : Result (Answer (call_of c)) Refused) → replied_at place (on_granted (reply_to c) r) ≡ reply_at c place r
+replied_same c place (Ok v) = refl
+replied_same c place (Err e) = refl
+
+line_same : (x : Position) (c : Command) (place : ℕ) (r : Result (Answer (call_of c)) Refused) →
+    Answers (reason x (call_of c)) r (λ v. v ≡ answer x (call_of c)) → line (reply_at c place r) ≡ answer_words x c place ++ codes "\n"
+line_same x c place (Ok v) answers =
+    ap (λ (w : Answer (call_of c)). words (reply_to c w) ++ codes "\n") answers.1
+    ∙ ap (λ (o : Option Reason). words_by o place (words (reply_to c (answer x (call_of c)))) ++ codes "\n") (sym answers.0)
+line_same x c place (Err e) answers = ap (λ (o : Option Reason). words_by o place (words (reply_to c (answer x (call_of c)))) ++ codes "\n") (sym answers)
+
+module _ {B R F : Type 0} (graph : B → Graph) (made : B → Type 0) (ledger : B → Ledger) (fixed : B → F) (before : R → Ranking) where
+  -- at a place, the board s has this reply, and is t after it, with the place `next`: what holds once its line is written
   pub record Turns (s : Board B R) (stream : List ℕ) (place : ℕ) (reply : Reply) (next : ℕ) (t : Board B R) : Type 0 where
-    pub ranking_is : t.ranking ≡ s.ranking
-    pub step_is : Stands graph made ledger s → step_at (before s.ranking) (position graph ledger s) stream place ≡ record { position = position graph ledger t; place = next; line = line reply }
-    pub stands : Stands graph made ledger s → Stands graph made ledger t
-    pub refused_kept : Stands graph made ledger s → (e : Reason) → reason (position graph ledger s) (call_of (decoded (drop place stream))) ≡ Some e → t ≡ s
+    pub takes : (from : List ℕ) (r : Stepped) (out : List ℕ) → WritesLine (line reply) next from r out →
+        Takes graph made ledger fixed before (found_at stream place) s place from r t out
+    pub makes : Stands graph made ledger s → (from : List ℕ) (r : Stepped) (out : List ℕ) → WritesLine (line reply) next from r out →
+        Makes graph made ledger fixed before (step_at (before s.ranking) (position graph ledger s) stream place) from r t out
 
-module _ {B R : Type 0} {graph : B → Graph} {made : B → Type 0} {ledger : B → Ledger} {before : R → Ranking} {s : Board B R} {stream : List ℕ} {place : ℕ} where
+module _ {B R F : Type 0} {graph : B → Graph} {made : B → Type 0} {ledger : B → Ledger} {fixed : B → F} {before : R → Ranking} {s : Board B R} {stream : List ℕ} {place : ℕ} where
   pub turns_command : {t : Board B R} (d : Decoded) (r : Result Reply Refused) → length stream ≤ 65536 → Reads stream place (Ok (Some d)) → Spans stream place d →
-      Plays graph made ledger before s d.command r t → Turns graph made ledger before s stream place (reply_at place r) d.next t
-  turns_command d r short reads spans plays =
+      CarriesOut graph made ledger fixed before s d.command r t → Turns graph made ledger fixed before s stream place (replied_at place r) d.next t
+  turns_command {t} d r short reads spans carried =
       let x = position graph ledger s in
+      let c = d.command in
+      let found = found_command stream place short d reads spans in
+      let reply : replied_at place r ≡ reply_at c place carried.answered = ap (replied_at place) carried.reply_is ∙ replied_same c place carried.answered in
+      let next : d.next ≡ place + length (bytes c) = ap (λ (e : Decoded). e.next) (next_is stream place short d reads spans) in
       record {
-        ranking_is = plays.ranking_is;
-        step_is = λ stood.
-            let where_to = sym (plays.position_is stood) in
-            let says = sym (plays.words_are stood place) in
-            step_command stream place short (before s.ranking) x d reads spans ∙ (λ i. record { position = where_to i; place = d.next; line = says i ++ codes "\n" });
-        stands = plays.stands;
-        refused_kept = λ stood e why.
-            plays.refused_kept stood e (ap (λ (f : Decoded). reason x (call_of f.command)) (decoded_same stream place short d reads spans) ∙ why);
+        takes = λ from p out writes.
+            subst (λ (f : Found). Takes graph made ledger fixed before f s place from p t out) (sym found)
+            (record {
+              answered = carried.answered;
+              steps = carried.steps;
+              writes = subst (λ (A : Type 0). A) (λ i. WritesLine (line (reply i)) (next i) from p out) writes;
+            });
+        makes = λ stood from p out writes.
+            let led = by_rules graph made ledger fixed before s stood (call_of c) carried.answered t carried.steps in
+            let says = ap line reply ∙ line_same x c place carried.answered led.answers in
+            subst (λ (f : Found). Makes graph made ledger fixed before (step_of (before s.ranking) x place f) from p t out) (sym found)
+            (record {
+              writes = subst (λ (A : Type 0). A) (λ i. WritesLine (says i) (next i) from p out) writes;
+              position_is = led.position_is;
+              stands = (carried.steps.partners stood).stands;
+            });
       }
 
-  pub turns_refused : (e : Refused) → length stream ≤ 65536 → Reads stream place (Err e) → Turns graph made ledger before s stream place (No e place) place s
-  turns_refused e short reads = record {
-    ranking_is = refl;
-    step_is = λ _. step_refused stream place short (before s.ranking) (position graph ledger s) e reads;
-    stands = λ stood. stood;
-    refused_kept = λ _ _ _. refl;
-  }
+  pub turns_refused : (e : Refused) → length stream ≤ 65536 → Reads stream place (Err e) → Turns graph made ledger fixed before s stream place (No e place) place s
+  turns_refused e short reads =
+      let x = position graph ledger s in
+      let found = found_refused stream place short e reads in
+      record {
+        takes = λ from p out writes. subst (λ (f : Found). Takes graph made ledger fixed before f s place from p s out) (sym found) (refl, writes);
+        makes = λ stood from p out writes.
+            subst (λ (f : Found). Makes graph made ledger fixed before (step_of (before s.ranking) x place f) from p s out) (sym found)
+            (record { writes = writes; position_is = refl; stands = stood });
+      }
 
-  pub steps_written : {t : Board B R} {from out : List ℕ} {n : ℕ} (next : ℕ) (reply : Reply) → stepping stream from ≡ None → Turns graph made ledger before s stream place reply next t →
-      Writes (line reply) from (Ok n) out → length (line reply) ≤ 19 → Steps graph made ledger before s stream place from (Ok (record { place = next; written = n })) t out
-  steps_written {t} {from} {out} {n} next reply none turns writes short =
-      let (size, is) = writes.answers.1 in
+  pub steps_ended : {from : List ℕ} → stepping stream from ≡ None → length stream ≤ 65536 → Reads stream place (Ok None) →
+      Steps graph made ledger fixed before s stream place from (Ok (record { place = place; written = 0 })) s from
+  steps_ended {from} none short reads =
+      let x = position graph ledger s in
+      let found = found_end stream place short reads in
+      let p : Stepped = record { place = place; written = 0 } in
+      let writes : WritesLine [] place from p from = record { place_is = refl; written_is = refl; out_is = refl; short = omega arith } in
       record {
         board_kept = tt;
         out_kept = tt;
-        ranking_is = turns.ranking_is;
-        beyond = ap (drop 19) is ∙ drop-append-drop n from (line reply) 19 (omega arith) (sym size);
-        answers = (
-          none,
-          (
-            omega arith,
-            λ stood.
-                subst (λ (y : Step). Makes graph made ledger before y from (record { place = next; written = n }) t out) (sym (turns.step_is stood))
-                (record {
-                  place_is = refl;
-                  written_is = size;
-                  out_is = is ∙ ap (λ k. line reply ++ drop k from) size;
-                  position_is = refl;
-                  stands = turns.stands stood;
-                }),
-          ),
-        );
-        refused_kept = turns.refused_kept;
+        answers = (none, subst (λ (f : Found). Takes graph made ledger fixed before f s place from p s from) (sym found) (refl, writes));
+        by_rules = λ stood.
+            subst (λ (f : Found). Makes graph made ledger fixed before (step_of (before s.ranking) x place f) from p s from) (sym found)
+            (record { writes = writes; position_is = refl; stands = stood });
+      }
+
+  pub steps_written : {t : Board B R} {from out : List ℕ} {n : ℕ} (next : ℕ) (reply : Reply) → stepping stream from ≡ None → Turns graph made ledger fixed before s stream place reply next t →
+      Writes (line reply) from (Ok n) out → length (line reply) ≤ 19 → Steps graph made ledger fixed before s stream place from (Ok (record { place = next; written = n })) t out
+  steps_written {t} {from} {out} {n} next reply none turns writes short =
+      let (size, is) = writes.answers.1 in
+      let p : Stepped = record { place = next; written = n } in
+      let written : WritesLine (line reply) next from p out = record {
+        place_is = refl;
+        written_is = size;
+        out_is = is ∙ ap (λ k. line reply ++ drop k from) size;
+        short = short;
+      } in
+      record {
+        board_kept = tt;
+        out_kept = tt;
+        answers = (none, turns.takes from p out written);
+        by_rules = λ stood. turns.makes stood from p out written;
       }

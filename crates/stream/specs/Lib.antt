@@ -1,3 +1,3 @@
+pub mod Replies
 pub mod Steps
-pub mod Replying
 pub mod Pairs

@@ -1,8 +1,8 @@
 -- The list of the pairs of a board.
-use Rattle.std.specs.Prelude.{◌≡◌, ℕ, zero, suc, ◌*◌, ◌%◌, cond, List, [], ◌++◌, length, drop, Some, None, Option, Result, nat_lt}
+use Rattle.std.specs.Prelude.{◌≡◌, ℕ, zero, suc, ◌*◌, ◌≤◌, cond, List, [], ◌++◌, length, drop, Some, None, IfOk, IfErr, Option, Result, nat_lt}
 use Rattle.graph.specs.Matching.{Partners}
 use Rattle.links.specs.Books.{by}
-use Rattle.links.specs.Refusals.{Reason, Answers, Kept}
+use Rattle.links.specs.Refusals.{Reason, Answers, Kept, told}
 use Rattle.links.specs.declared.refusal.Layer.TheVariants.{Stream}
 use Rattle.links.specs.declared.refusal.Refused.{Refused}
 use Rattle.rules.specs.Calls.{Position, pairs_of}
@@ -21,17 +21,20 @@ pair_lines (suc n) p = pair_lines n p ++ lower_line n (p n)
 abbrev pub lines_of : Position → List ℕ
 lines_of x = pair_lines x.graph.size x.partners
 
--- 14: the output has fewer than 8 bytes for each pair
+-- 14: the output is too short
+abbrev pub too_short : Option Reason
+too_short = by Stream 14
+
+-- there are not 8 bytes for each pair
 abbrev pub listing : Position → List ℕ → Option Reason
-listing x out = cond (nat_lt (length out) (8 * pairs_of x)) (by Stream 14) None
+listing x out = cond (nat_lt (length out) (8 * pairs_of x)) too_short None
 
--- the lines of a position are written at the start of the output and their length answered; refused, the output stays as
--- it was
-pub record Lists (x : Position) (from : List ℕ) (r : Result ℕ Refused) (out : List ℕ) : Type 0 where
+-- how the pairs of a board are listed at the start of the output `from`. On every board: refused, which it is with 14 alone,
+-- the output stays as it was, and granted, all that lies past the length that is answered. Where the board stands, at the
+-- position x, the lines are those of its pairs
+pub record Lists (Standing : Type 0) (x : Position) (from : List ℕ) (r : Result ℕ Refused) (out : List ℕ) : Type 0 where
   pub kept : Kept r from out
-  pub answers : Answers (listing x from) r (λ n. (n ≡ length (lines_of x)) × (out ≡ lines_of x ++ drop n from))
-
--- the same line with both numbers taken modulo 256, so that it is that of some pair for every value
-abbrev pub narrow_line : ℕ → Option ℕ → List ℕ
-narrow_line a None = []
-narrow_line a (Some b) = cond (nat_lt a b) (pair_line (a % 256) (b % 256)) []
+  pub refused : IfErr r (λ e. too_short ≡ Some (told e))
+  pub granted : IfOk r (λ n. (n ≤ length from) × (drop n out ≡ drop n from))
+  pub answers : Standing → Answers (listing x from) r
+      (λ n. (n ≡ length (lines_of x)) × (out ≡ lines_of x ++ drop n from))

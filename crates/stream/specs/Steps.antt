@@ -1,48 +1,36 @@
 -- How a stream of commands is played on a board, a command at a time, and the lines that are answered.
-use Rattle.std.specs.Prelude.{◌≡◌, ℕ, ◌+◌, ◌≤◌, cond, List, [], ◌++◌, length, drop, Some, None, codes, Option, Result, nat_le, nat_lt}
+use Rattle.std.specs.Prelude.{◌≡◌, ℕ, ◌+◌, ◌≤◌, cond, List, [], ◌++◌, length, drop, Some, None, IfOk, codes, Option, Result, nat_le, nat_lt}
 use Rattle.graph.specs.Graph.{Graph}
 use Rattle.links.specs.Books.{Ledger, by}
 use Rattle.links.specs.Refusals.{Reason, Answers, Kept}
 use Rattle.links.specs.declared.refusal.Layer.TheVariants.{Stream}
 use Rattle.links.specs.declared.refusal.Refused.{Refused}
-use Rattle.rules.specs.Calls.{Position, Call, link, unlink, withdraw, depart, ask_partner, reason, after, partner_of}
+use Rattle.rules.specs.Calls.{Position, Answer, reason, answer, after}
 use Rattle.rules.specs.Repair.{Ranking}
-use Rattle.board.specs.Boards.{position, Stands}
+use Rattle.board.specs.Boards.{position, Stands, Steps as BoardSteps}
 use Rattle.board.specs.declared.Board.{Board}
 use Rattle.commands.specs.Commands.{bytes, decoding, decoded, unless_short}
 use Rattle.commands.specs.declared.Command.{Command}
-use Rattle.commands.specs.declared.Command.TheVariants.{Link, Unlink, Withdraw, Depart, Partner}
-use Rattle.replies.specs.Digits.{digits}
-use Rattle.replies.specs.Lines.{refusal_words}
+use Rattle.replies.specs.Lines.{words, line, refusal_words}
+use Rattle.stream.specs.Replies.{call_of, reply_to, reply_at}
 use Rattle.stream.specs.declared.Stepped.{Stepped}
 
--- the call that a command asks for
-abbrev pub call_of : Command → Call
-call_of (Link a b) = link a b
-call_of (Unlink a b) = unlink a b
-call_of (Withdraw a) = withdraw a
-call_of (Depart a) = depart a
-call_of (Partner a) = ask_partner a
+-- what stands at a place of a stream: its end, bytes that are no command, for a reason, or a command
+pub data Found : Type 0 where
+  at_end : Found
+  no_command : Reason → Found
+  command : Command → Found
 
-abbrev pub partner_words : Option ℕ → List ℕ
-partner_words None = codes "alone"
-partner_words (Some b) = codes "with " ++ digits b
+abbrev pub found_by : Option Reason → Command → Found
+found_by None c = command c
+found_by (Some why) c = no_command why
 
--- what is answered to a command that is carried out
-abbrev pub granted_words : Position → Command → List ℕ
-granted_words x (Link a b) = codes "ok"
-granted_words x (Unlink a b) = codes "ok"
-granted_words x (Withdraw a) = codes "ok"
-granted_words x (Depart a) = codes "ok"
-granted_words x (Partner a) = partner_words (partner_of x a)
+abbrev pub found_at : List ℕ → ℕ → Found
+found_at stream place =
+    let rest = drop place stream in
+    cond (nat_le (length stream) place) at_end (found_by (decoding rest) (decoded rest))
 
-abbrev pub words_by : Option Reason → ℕ → List ℕ → List ℕ
-words_by None place granted = granted
-words_by (Some r) place granted = refusal_words r place
-
--- what is answered to a command that stands at a place
-abbrev pub answer_words : Position → Command → ℕ → List ℕ
-answer_words x c place = words_by (reason x (call_of c)) place (granted_words x c)
+-- ---- by the rules, on a board that stands
 
 -- where a step leads: the position and the place after it, and the line that it answers
 pub record Step : Type 0 where
@@ -50,42 +38,73 @@ pub record Step : Type 0 where
   pub place : ℕ
   pub line : List ℕ
 
-abbrev pub command_step : Ranking → Position → Command → ℕ → Step
-command_step before x c place =
-    record { position = after before x (call_of c); place = place + length (bytes c); line = answer_words x c place ++ codes "\n" }
+abbrev pub words_by : Option Reason → ℕ → List ℕ → List ℕ
+words_by None place granted = granted
+words_by (Some why) place granted = refusal_words why place
 
--- by the reason for which the bytes are no command, if there is one: then the place stays
-abbrev pub step_by : Ranking → Position → Command → ℕ → Option Reason → Step
-step_by before x c place None = command_step before x c place
-step_by before x c place (Some r) = record { position = x; place = place; line = refusal_words r place ++ codes "\n" }
+-- what is answered to a command that stands at a place
+abbrev pub answer_words : Position → Command → ℕ → List ℕ
+answer_words x c place =
+    words_by (reason x (call_of c)) place (words (reply_to c (answer x (call_of c))))
 
--- a step at a place of a stream; at or past the end all stays as it is, and nothing is answered
+-- a step by what stands at the place; where it is no command, or the end, the place stays
+abbrev pub step_of : Ranking → Position → ℕ → Found → Step
+step_of before x place at_end = record { position = x; place = place; line = [] }
+step_of before x place (no_command why) =
+    record { position = x; place = place; line = refusal_words why place ++ codes "\n" }
+step_of before x place (command c) =
+    record {
+      position = after before x (call_of c);
+      place = place + length (bytes c);
+      line = answer_words x c place ++ codes "\n";
+    }
+
 abbrev pub step_at : Ranking → Position → List ℕ → ℕ → Step
-step_at before x stream place =
-    cond (nat_le (length stream) place) (record { position = x; place = place; line = [] })
-    (step_by before x (decoded (drop place stream)) place (decoding (drop place stream)))
+step_at before x stream place = step_of before x place (found_at stream place)
+
+-- ---- on every board
 
 -- why a step is refused: the stream is too long, or 14: the output may be too short for a line
 abbrev pub stepping : List ℕ → List ℕ → Option Reason
-stepping stream out = unless_short stream (cond (nat_lt (length out) 19) (by Stream 14) None)
+stepping stream out =
+    unless_short stream (cond (nat_lt (length out) 19) (by Stream 14) None)
 
-module _ {B R : Type 0} (graph : B → Graph) (made : B → Type 0) (ledger : B → Ledger) (before : R → Ranking) where
-  -- a step y was made: its place and the length of its line are answered, its line is written at the start of the output
-  -- `from`, and the board t stands at its position
+-- a line was written at the start of the output `from`, and its length answered with the place after the step
+pub record WritesLine (line : List ℕ) (place : ℕ) (from : List ℕ) (r : Stepped) (out : List ℕ) : Type 0 where
+  pub place_is : r.place ≡ place
+  pub written_is : r.written ≡ length line
+  pub out_is : out ≡ line ++ drop (length line) from
+  pub short : length line ≤ 19
+
+module _ {B R F : Type 0} (graph : B → Graph) (made : B → Type 0) (ledger : B → Ledger) (fixed : B → F)
+    (before : R → Ranking) where
+  -- the command c at a place was answered by the board's own call, and the reply to that answer was written
+  pub record Plays (s : Board B R) (c : Command) (place : ℕ) (from : List ℕ) (r : Stepped) (t : Board B R)
+      (out : List ℕ) : Type 0 where
+    pub answered : Result (Answer (call_of c)) Refused
+    pub steps : BoardSteps graph made ledger fixed before s (call_of c) answered t
+    pub writes : WritesLine (line (reply_at c place answered)) (place + length (bytes c)) from r out
+
+  -- a step by what stands at the place: at the end and where it is no command the board stays as it was
+  abbrev pub Takes : Found → Board B R → ℕ → List ℕ → Stepped → Board B R → List ℕ → Type 0
+  Takes at_end s place from r t out = (t ≡ s) × WritesLine [] place from r out
+  Takes (no_command why) s place from r t out =
+      (t ≡ s) × WritesLine (refusal_words why place ++ codes "\n") place from r out
+  Takes (command c) s place from r t out = Plays s c place from r t out
+
+  -- a step y of the rules was made, and the board t stands at its position
   pub record Makes (y : Step) (from : List ℕ) (r : Stepped) (t : Board B R) (out : List ℕ) : Type 0 where
-    pub place_is : r.place ≡ y.place
-    pub written_is : r.written ≡ length y.line
-    pub out_is : out ≡ y.line ++ drop (length y.line) from
+    pub writes : WritesLine y.line y.place from r out
     pub position_is : position graph ledger t ≡ y.position
     pub stands : Stands graph made ledger t
 
-  -- how a step on the board s and the output `from` is answered r, and leaves the board t and the output `out`
-  pub record Steps (s : Board B R) (stream : List ℕ) (place : ℕ) (from : List ℕ) (r : Result Stepped Refused) (t : Board B R) (out : List ℕ) : Type 0 where
+  -- how a step on the board s and the output `from` is answered r, and leaves the board t and the output `out`. Refused, it
+  -- leaves both as they were
+  pub record Steps (s : Board B R) (stream : List ℕ) (place : ℕ) (from : List ℕ) (r : Result Stepped Refused)
+      (t : Board B R) (out : List ℕ) : Type 0 where
     pub board_kept : Kept r s t
     pub out_kept : Kept r from out
-    pub ranking_is : t.ranking ≡ s.ranking
-    pub beyond : drop 19 out ≡ drop 19 from
     pub answers : Answers (stepping stream from) r
-        (λ p. (p.written ≤ 19) × (Stands graph made ledger s → Makes (step_at (before s.ranking) (position graph ledger s) stream place) from p t out))
-    -- a command that the board refuses leaves the whole board as it was
-    pub refused_kept : Stands graph made ledger s → (e : Reason) → reason (position graph ledger s) (call_of (decoded (drop place stream))) ≡ Some e → t ≡ s
+        (λ p. Takes (found_at stream place) s place from p t out)
+    pub by_rules : Stands graph made ledger s → IfOk r
+        (λ p. Makes (step_at (before s.ranking) (position graph ledger s) stream place) from p t out)

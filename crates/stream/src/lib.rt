@@ -1,52 +1,63 @@
 // A stream of commands played on a board, a step at a time, and the list of its pairs.
 #![tactic(auto)]
 
-ghost use Rattle.std.specs.Prelude.{◌≡◌, ◌%◌, ◌≤◌, length, IfOk, if◌then◌else◌};
+ghost use Rattle.std.specs.Prelude.{◌≡◌, ◌≤◌, ◌<◌, length, IfSome, if◌then◌else◌};
 ghost use Rattle.graph.specs.Pairs.{below_partner};
 ghost use Rattle.links.specs.Outputs.{Writes};
 ghost use Rattle.links.specs.Refusals.{Answers};
 ghost use Rattle.board.specs.Boards.{position, Stands};
-ghost use Rattle.stream.specs.Pairs.{narrow_line, Lists};
-ghost use Rattle.stream.specs.Replying.{Plays};
+ghost use Rattle.stream.specs.Pairs.{lower_line, Lists};
+ghost use Rattle.stream.specs.Replies.{partner_reply, on_granted, CarriesOut};
 ghost use Rattle.stream.specs.Steps.{stepping, Steps};
 
 use board::Board;
 use commands::{Command, check_length, read};
-use links::{Book, Layer, Links, Refusal, Refused};
+use links::{Book, Layer, Links, Refusal, Refused, write_start};
 use ranking::Ranking;
 use replies::{LONGEST_LINE, LONGEST_PAIR, Reply, write_pair};
 
-// The place after a step, and how many bytes of its line were written.
+// There is at most a line for each of 256 loads.
+const LONGEST_LIST: usize = 256 * LONGEST_PAIR;
+
+/// The place after a step, and how many bytes of its line were written.
 #[derive(Clone, Copy, PartialEq, Eq, Debug)]
 pub struct Stepped {
     pub place: usize,
     pub written: usize,
 }
 
-// A load in a byte: there are at most 256. The remainder makes the cast safe on a board that did not come from opening.
-fn narrow(load: usize) -> u8
-    ensures { result ≡ load % 256 }
+// The reply to a change that was made or refused.
+fn done(answer: Result<(), Refused>) -> Result<Reply, Refused>
+    ensures { result ≡ on_granted (λ _. Reply.Done) answer }
 {
-    (load % 256) as u8
+    answer.map(|()| Reply::Done)
 }
 
-// Makes the call that a command asks for, and answers the reply to one that is granted.
+// The reply to a question for a partner. A partner is one of 256 loads.
+fn partner_reply(partner: Option<usize>) -> Reply
+    requires { IfSome partner (λ b. b < 256) }
+    ensures { result ≡ partner_reply partner }
+{
+    match partner {
+        Some(b) => Reply::With(b as u16),
+        None => Reply::Alone,
+    }
+}
+
+// Makes the call that a command asks for, and answers the reply to it.
 fn play<B: Book, R: Ranking>(board: &mut Board<B, R>, command: Command) -> Result<Reply, Refused>
-    ensures { Plays B.Links.graph B.Links.made B.Book.ledger R.Ranking.before board.old command result board.new }
+    ensures {
+        CarriesOut B.Links.graph B.Links.made B.Book.ledger B.Book.fixed R.Ranking.before
+        board.old command result board.new
+    }
 {
     match command {
-        Command::Link(a, b) => board.link(usize::from(a), usize::from(b))?,
-        Command::Unlink(a, b) => board.unlink(usize::from(a), usize::from(b))?,
-        Command::Withdraw(a) => board.withdraw(usize::from(a))?,
-        Command::Depart(a) => board.depart(usize::from(a))?,
-        Command::Partner(a) => {
-            return Ok(match board.partner(usize::from(a))? {
-                Some(b) => Reply::With(u16::from(narrow(b))),
-                None => Reply::Alone,
-            });
-        }
+        Command::Link(a, b) => done(board.link(usize::from(a), usize::from(b))),
+        Command::Unlink(a, b) => done(board.unlink(usize::from(a), usize::from(b))),
+        Command::Withdraw(a) => done(board.withdraw(usize::from(a))),
+        Command::Depart(a) => done(board.depart(usize::from(a))),
+        Command::Partner(a) => Ok(partner_reply(board.partner(usize::from(a))?)),
     }
-    Ok(Reply::Done)
 }
 
 fn check_step(stream: &[u8], out: &[u8]) -> Result<(), Refused>
@@ -59,14 +70,19 @@ fn check_step(stream: &[u8], out: &[u8]) -> Result<(), Refused>
     Ok(())
 }
 
-// Plays the command at a place of the stream, and writes the line that answers it at the start of `out`.
+/// Plays the command at a place of the stream, and writes the line that answers it at the start of `out`. At or past the end
+/// it does nothing; after 12 and 13, where the bytes are no command, the place stays. Refused with 3 (stream) where the stream
+/// has more than 65,536 bytes, then with 14 (stream) where `out` has fewer than 19; then nothing is changed or written.
 pub fn step<B: Book, R: Ranking>(
     board: &mut Board<B, R>,
     stream: &[u8],
     place: usize,
     out: &mut [u8],
 ) -> Result<Stepped, Refused>
-    ensures { Steps B.Links.graph B.Links.made B.Book.ledger R.Ranking.before board.old stream.now place out.old result board.new out.new }
+    ensures {
+        Steps B.Links.graph B.Links.made B.Book.ledger B.Book.fixed R.Ranking.before
+        board.old stream.now place out.old result board.new out.new
+    }
 {
     check_step(stream, out)?;
     let (next, answer) = match read(stream, place) {
@@ -85,30 +101,37 @@ pub fn step<B: Book, R: Ranking>(
 
 // Writes the line of a load and its partner where that is the higher one, and answers its length.
 fn write_lower(a: usize, partner: Option<usize>, out: &mut [u8]) -> Result<usize, Refused>
-    ensures writes { Writes (narrow_line a partner) out.old result out.new }
-    ensures short { length (narrow_line a partner) ≤ (if below_partner a partner then 8 else 0) }
+    requires load { a < 256 }
+    requires partner { IfSome partner (λ b. b < 256) }
+    ensures writes { Writes (lower_line a partner) out.old result out.new }
+    ensures short { length (lower_line a partner) ≤ (if below_partner a partner then 8 else 0) }
 {
     match partner {
-        Some(b) if a < b => write_pair(narrow(a), narrow(b), out),
+        Some(b) if a < b => write_pair(a as u8, b as u8, out),
         _ => Ok(0),
     }
 }
 
-// Writes a line for each pair at the start of `out`, in the order of the lower loads, and answers how many bytes they have.
+/// Writes a line for each pair at the start of `out`, the lower load first, in the order of the lower loads, and answers how
+/// many bytes they have. Refused with 14 (stream) where `out` has fewer than 8 bytes for each pair; nothing is written then.
+/// On a board that did not come from opening, lines that do not fit are refused in the same way.
 pub fn list_pairs<B: Book, R: Ranking>(
     board: &Board<B, R>,
     out: &mut [u8],
 ) -> Result<usize, Refused>
-    ensures lists { Stands B.Links.graph B.Links.made B.Book.ledger board.now → Lists (position B.Links.graph B.Book.ledger board.now) out.old result out.new }
-    ensures within { IfOk result (λ n. n ≤ length out.old) }
+    ensures {
+        Lists (Stands B.Links.graph B.Links.made B.Book.ledger board.now)
+        (position B.Links.graph B.Book.ledger board.now) out.old result out.new
+    }
 {
     if out.len() / LONGEST_PAIR < board.pairs() {
         return Err(Refusal::OutputTooShort.by(Layer::Stream));
     }
+    let mut lines = [0; LONGEST_LIST];
     let mut written = 0;
     for a in 0..board.book().size().min(256) {
-        let partner = board.partner(a)?;
-        written += write_lower(a, partner, &mut out[written..])?;
+        let partner = board.partner(a).unwrap_or(None);
+        written += write_lower(a, partner, &mut lines[written..])?;
     }
-    Ok(written)
+    write_start(&lines[..written], out)
 }

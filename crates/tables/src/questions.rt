@@ -32,7 +32,8 @@ impl Tables {
     }
 
     pub fn partner(&self, a: usize) -> Option<usize>
-        ensures { result ≡ partners_of self.now a }
+        ensures value { result ≡ partners_of self.now a }
+        ensures bound { IfSome result (λ b. b < 256) }
     {
         self.record(a).partner.map(usize::from)
     }

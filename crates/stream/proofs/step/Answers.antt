@@ -1,7 +1,6 @@
 use Rattle.std.proofs.Common.{◌≡◌, Some, Ok, rules}
 use Rattle.commands.specs.Commands.{Reads, Spans}
-use Rattle.stream.specs.Replying.{reply_at}
-use Rattle.stream.proofs.Stepping.{stepping_none, Turns, turns_command, turns_refused, steps_written}
+use Rattle.stream.proofs.Stepping.{replied_at, stepping_none, Turns, turns_command, turns_refused, steps_written, steps_ended}
 use Rattle.stream.proofs.step.Goals as goal
 use Rattle.stream.proofs.step.Goals.{in-Ok-Some, in-Err}
 
@@ -10,7 +9,7 @@ returns g c =
     let none = c.in_ok-check_step.ensures.0 in
     let short = (stepping_none c.args.stream.now c.args.out.now none).0 in
     let written = c.in_ok-written.ensures in
-    let turns : Turns g.B.Links.graph g.B.Links.made g.B.Book.ledger g.R.Ranking.before c.args.board.now c.args.stream.now c.args.place (reply_at c.args.place c.match-read.next.1) c.match-read.next.0 c.match-read.board =
+    let turns : Turns g.B.Links.graph g.B.Links.made g.B.Book.ledger g.B.Book.fixed g.R.Ranking.before c.args.board.now c.args.stream.now c.args.place (replied_at c.args.place c.match-read.next.1) c.match-read.next.0 c.match-read.board =
     elim c.match-read.branch [
       | in-Ok-Some w ↦
           let d = w.in-Ok-Some.decoded in
@@ -19,5 +18,5 @@ returns g c =
           rw (w.board-is, w.next-is) (turns_command d w.play.result short reads spans w.play.ensures)
       | in-Err w ↦ rw (w.board-is, w.next-is) (turns_refused w.in-Err.refused short w.in-Err.ensures.value)
     ] in
-    let said : c.unwrap_or_else-reply.result ≡ reply_at c.args.place c.match-read.next.1 = search rules in
+    let said : c.unwrap_or_else-reply.result ≡ replied_at c.args.place c.match-read.next.1 = search rules in
     steps_written c.match-read.next.0 c.unwrap_or_else-reply.result none (rw said turns) written.writes written.short

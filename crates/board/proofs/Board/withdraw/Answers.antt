@@ -26,7 +26,7 @@ returns-in-Some g c =
           let change = on_book made graph before (λ before t graph. Changes graph (repair before t graph (c.in-Some.b ∷ [])) c.part.new.self c.repair.new.tables)
           c.repair_of.result c.remove_links.new.book s.ranking c.repair_of.result.threshold parts.links parts.ranking refl c.repair.ensures in
           withdrawn_partner graph made ledger before s c.args.a (load.load stands.book_made).0 (record { book = c.remove_links.new.book; ranking = s.ranking; tables = c.repair.new.tables })
-          stands c.in-Some.b (sym c.in-Some.ensures) c.remove_links.new.tables c.part.new.self c.remove_links.ensures.removes c.part.ensures.changed
+          stands c.in-Some.b (sym c.in-Some.ensures.value) c.remove_links.new.tables c.part.new.self c.remove_links.ensures.removes c.part.ensures.changed
           c.repair_of.result.threshold parts.threshold parts.bounded change;
     }
 
@@ -48,5 +48,5 @@ returns-in_default g c =
           made_is (load.simple made_is) c.remove_links.new.tables c.remove_links.ensures.removes;
       partners = λ stands.
           withdrawn_free graph made ledger before s c.args.a (load.load stands.book_made).0 (record { book = c.remove_links.new.book; ranking = s.ranking; tables = c.remove_links.new.tables })
-          stands (sym c.in_default.ensures) c.remove_links.ensures.removes;
+          stands (sym c.in_default.ensures.value) c.remove_links.ensures.removes;
     }

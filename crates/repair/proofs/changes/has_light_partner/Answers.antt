@@ -7,4 +7,4 @@ use Rattle.repair.proofs.changes.has_light_partner.Goals as goal
 pub returns : goal.returns
 returns c = λ graph agrees.
     let light = light_partner graph c.args.threshold in
-    asked light c.partner.result c.is_some_and.result _ c.is_some_and.ensures refl (λ y answer. let same = agrees.tracks.degrees y in grind (arith, nat_tests)) ∙ ap light c.partner.ensures
+    asked light c.partner.result c.is_some_and.result _ c.is_some_and.ensures refl (λ y answer. let same = agrees.tracks.degrees y in grind (arith, nat_tests)) ∙ ap light c.partner.ensures.value

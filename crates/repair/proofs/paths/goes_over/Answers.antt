@@ -7,4 +7,4 @@ use Rattle.repair.proofs.paths.goes_over.Goals as goal
 pub returns : goal.returns
 returns c = λ graph simple agrees.
     let over = λ (o : Option ℕ). any_below graph.size (ends_path graph (partners_of c.args.tables.now) c.args.a o) in
-    asked over c.partner.result c.is_some_and.result _ c.is_some_and.ensures (any_nothing graph.size) (λ y answer. search (rules, simple, agrees)) ∙ ap over c.partner.ensures
+    asked over c.partner.result c.is_some_and.result _ c.is_some_and.ensures (any_nothing graph.size) (λ y answer. search (rules, simple, agrees)) ∙ ap over c.partner.ensures.value
