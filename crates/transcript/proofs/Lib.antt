@@ -1,2 +1,3 @@
 mod Playing
 mod Writing
+pub mod Law

@@ -1,7 +1,7 @@
 -- Steps that are made one after the other, and the text that they answer.
 use Rattle.std.proofs.Common.{◌≡◌, ℕ, zero, suc, ◌+◌, ◌-◌, ◌<◌, ◌≤◌, leb, ◌⊎◌, List, [], ◌++◌, length, drop, Some, None, Option, sym, refl, ap, ◌∙◌, ap₂, inl, inr, ⊎_elim, append_assoc, arith}
 use Rattle.std.proofs.lemmas.List.{append-nil}
-use Rattle.std.proofs.lemmas.Bool.{cond-true, cond-false, cond_both, eq-eqb, ne_eqb, le-leb, le-ltb}
+use Rattle.std.proofs.lemmas.Bool.{cond-true, cond-false, eq-eqb, ne_eqb, le-leb, le-ltb}
 use Rattle.std.proofs.lemmas.Bool.Decides.{nat_tests}
 use Rattle.graph.specs.Graph.{Graph}
 use Rattle.links.specs.Books.{Ledger}
@@ -10,18 +10,18 @@ use Rattle.rules.specs.Calls.{Position}
 use Rattle.rules.specs.Repair.{Ranking}
 use Rattle.board.specs.Boards.{position, Stands}
 use Rattle.board.specs.declared.Board.{Board}
-use Rattle.commands.specs.Commands.{bytes, decoding, decoded}
+use Rattle.commands.specs.Commands.{bytes}
 use Rattle.commands.specs.declared.Command.{Command}
 use Rattle.commands.specs.declared.Command.TheVariants.{Link, Unlink, Withdraw, Depart, Partner}
-use Rattle.stream.specs.Steps.{Step, step_by, step_at, stepping}
+use Rattle.stream.specs.Steps.{Found, at_end, no_command, command, found_at, Step, step_of, step_at, stepping}
 use Rattle.transcript.specs.Texts.{Pushes, Plays}
 use Rattle.transcript.specs.Transcript.{Played, and_then, played, PlayedOut, transcribing}
 
-played_none : (before : Ranking) (x : Position) (stream : List ℕ) (place : ℕ) → played 0 before x stream place ≡ record { position = x; text = [] }
+pub played_none : (before : Ranking) (x : Position) (stream : List ℕ) (place : ℕ) → played 0 before x stream place ≡ record { position = x; text = [] }
 unfolding played
 played_none before x stream place = refl
 
-played_step : (n : ℕ) (before : Ranking) (x : Position) (stream : List ℕ) (place : ℕ) →
+pub played_step : (n : ℕ) (before : Ranking) (x : Position) (stream : List ℕ) (place : ℕ) →
     played (suc n) before x stream place ≡ and_then place (step_at before x stream place) (played n before (step_at before x stream place).position stream (step_at before x stream place).place)
 unfolding played
 played_step n before x stream place = refl
@@ -35,7 +35,7 @@ and_goes_on place y rest other = cond-false _ _ _ (ne_eqb y.place place other)
 -- ---- more steps than bytes
 
 step_ended : (before : Ranking) (x : Position) (stream : List ℕ) (place : ℕ) → length stream ≤ place → step_at before x stream place ≡ record { position = x; place = place; line = [] }
-step_ended before x stream place past = cond-true _ _ _ (le-leb (length stream) place past)
+step_ended before x stream place past = ap (step_of before x place) (cond-true (leb (length stream) place) _ _ (le-leb (length stream) place past))
 
 some_bytes : (command : Command) → 0 < length (bytes command)
 some_bytes (Link a b) = omega arith
@@ -44,15 +44,14 @@ some_bytes (Withdraw a) = omega arith
 some_bytes (Depart a) = omega arith
 some_bytes (Partner a) = omega arith
 
-step_by_ahead : (before : Ranking) (x : Position) (c : Command) (place : ℕ) (o : Option Reason) → ((step_by before x c place o).place ≡ place) ⊎ (place < (step_by before x c place o).place)
-step_by_ahead before x c place None = inr (omega (arith, some_bytes c))
-step_by_ahead before x c place (Some r) = inl refl
+step_of_ahead : (before : Ranking) (x : Position) (place : ℕ) (f : Found) → ((step_of before x place f).place ≡ place) ⊎ (place < (step_of before x place f).place)
+step_of_ahead before x place at_end = inl refl
+step_of_ahead before x place (no_command why) = inl refl
+step_of_ahead before x place (command c) = inr (omega (arith, some_bytes c))
 
 -- a step leaves the place or goes on
 step_ahead : (before : Ranking) (x : Position) (stream : List ℕ) (place : ℕ) → ((step_at before x stream place).place ≡ place) ⊎ (place < (step_at before x stream place).place)
-step_ahead before x stream place =
-    cond_both (leb (length stream) place) _ _ (λ (y : Step). (y.place ≡ place) ⊎ (place < y.place)) (λ _. inl refl)
-    (λ _. step_by_ahead before x (decoded (drop place stream)) place (decoding (drop place stream)))
+step_ahead before x stream place = step_of_ahead before x place (found_at stream place)
 
 played_ended : (n : ℕ) (before : Ranking) (x : Position) (stream : List ℕ) (place : ℕ) → length stream ≤ place → played n before x stream place ≡ record { position = x; text = [] }
 played_ended zero before x stream place past = played_none before x stream place

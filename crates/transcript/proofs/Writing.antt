@@ -15,15 +15,14 @@ use Rattle.tables.specs.Views.{partners_of}
 use Rattle.board.specs.Boards.{position, Stands, Opens}
 use Rattle.board.specs.declared.Board.{Board}
 use Rattle.stream.specs.Pairs.{lines_of, listing}
-use Rattle.stream.specs.Steps.{Step, Makes}
+use Rattle.stream.specs.Steps.{WritesLine}
 use Rattle.stream.specs.declared.Stepped.{Stepped}
 use Rattle.transcript.specs.Texts.{Plays}
 use Rattle.transcript.specs.Transcript.{played, answered, start, transcript}
 
 -- the line of a step stands at the start of the output
-pub line_first : {B R : Type 0} {graph : B → Graph} {made : B → Type 0} {ledger : B → Ledger} {before : R → Ranking} {y : Step} {from : List ℕ} {r : Stepped} {t : Board B R} {out : List ℕ} →
-    Makes graph made ledger before y from r t out → take r.written out ≡ y.line
-line_first {y = y} {from = from} {r = r} makes = ap (take r.written) makes.out_is ∙ take_at y.line (drop (length y.line) from) r.written (sym makes.written_is)
+pub line_first : {line : List ℕ} {place : ℕ} {from : List ℕ} {r : Stepped} {out : List ℕ} → WritesLine line place from r out → take r.written out ≡ line
+line_first {line} {from = from} {r = r} writes = ap (take r.written) writes.out_is ∙ take_at line (drop (length line) from) r.written (sym writes.written_is)
 
 -- 256 loads have at most 128 pairs
 pub pairs_fit : {B R : Type 0} {graph : B → Graph} {made : B → Type 0} {ledger : B → Ledger} (s : Board B R) (out : List ℕ) (e : Reason) → Stands graph made ledger s → length out ≡ 1024 →

@@ -4,6 +4,7 @@ use Rattle.links.specs.Refusals.{Reason}
 use Rattle.commands.specs.Commands.{unless_short}
 use Rattle.rules.specs.Boards.{by_number, fresh}
 use Rattle.rules.specs.Calls.{Position}
+use Rattle.rules.specs.Health.{Sound, TwoThirds}
 use Rattle.rules.specs.Repair.{Ranking}
 use Rattle.stream.specs.Pairs.{lines_of}
 use Rattle.stream.specs.Steps.{Step, step_at}
@@ -44,3 +45,17 @@ transcript input = answered (played (length input) by_number start input 0)
 -- 3: the input is too long for a stream
 abbrev pub transcribing : List ℕ → Option Reason
 transcribing input = unless_short input None
+
+-- ---- the law of runs
+
+-- the position after n steps of the play of an input
+abbrev pub moment : List ℕ → ℕ → Position
+moment input n = (played n by_number start input 0).position
+
+-- at every moment of the play, the last one too, whose pairs are listed: partners are mutual and linked, no augmenting path
+-- has one or three links, no free load has more links than the threshold, and three times the pairs is at least twice those
+-- of every matching of the links that are left
+pub record KeepsLaw (input : List ℕ) : Type 0 where
+  pub sound : (n : ℕ) → Sound (moment input n)
+  pub two_thirds : (n : ℕ) → TwoThirds (moment input n)
+  pub listed : transcript input ≡ (played (length input) by_number start input 0).text ++ lines_of (moment input (length input))

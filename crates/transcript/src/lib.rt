@@ -5,7 +5,7 @@ ghost use Rattle.std.specs.Prelude.{◌≡◌, ◌++◌, None, Some};
 ghost use Rattle.board.specs.Boards.{position, Stands};
 ghost use Rattle.stream.specs.Pairs.{lines_of};
 ghost use Rattle.transcript.specs.Texts.{Ends, PushesStep, PlaysAll};
-ghost use Rattle.transcript.specs.Transcript.{transcribing, transcript, PlayedOut};
+ghost use Rattle.transcript.specs.Transcript.{transcribing, transcript, PlayedOut, KeepsLaw};
 ghost use Rattle.transcript.specs.declared.Failure.TheVariants.{Input, Memory};
 ghost use Rattle.transcript.specs.Words.{failure_text};
 ghost use Rattle.transcript.specs.Worked.{WorkedStream};
@@ -66,7 +66,10 @@ fn push_step<B: Book, R: Ranking>(
     place: usize,
     text: &mut Vec<u8>,
 ) -> Result<usize, Failure>
-    ensures { PushesStep B.Links.graph B.Links.made B.Book.ledger R.Ranking.before board.old stream.now place text.old.items result board.new text.new.items }
+    ensures {
+        PushesStep B.Links.graph B.Links.made B.Book.ledger R.Ranking.before
+        board.old stream.now place text.old.items result board.new text.new.items
+    }
 {
     let mut line = [0; LONGEST_LINE];
     let stepped = step(board, stream, place, &mut line)?;
@@ -80,7 +83,10 @@ fn play_all<B: Book, R: Ranking>(
     stream: &[u8],
     text: &mut Vec<u8>,
 ) -> Result<(), Failure>
-    ensures { PlaysAll B.Links.graph B.Links.made B.Book.ledger R.Ranking.before board.old stream.now text.old.items result board.new text.new.items }
+    ensures {
+        PlaysAll B.Links.graph B.Links.made B.Book.ledger R.Ranking.before
+        board.old stream.now text.old.items result board.new text.new.items
+    }
 {
     let mut place = 0;
     for _ in 0..stream.len() {
@@ -95,7 +101,11 @@ fn play_all<B: Book, R: Ranking>(
 
 // Puts the lines of the pairs at the end of the text.
 fn push_pairs<B: Book, R: Ranking>(board: &Board<B, R>, text: &mut Vec<u8>) -> Result<(), Failure>
-    ensures { Stands B.Links.graph B.Links.made B.Book.ledger board.now → Ends None result (λ _. text.new.items ≡ text.old.items ++ lines_of (position B.Links.graph B.Book.ledger board.now)) }
+    ensures {
+        Stands B.Links.graph B.Links.made B.Book.ledger board.now →
+        Ends None result (λ _.
+            text.new.items ≡ text.old.items ++ lines_of (position B.Links.graph B.Book.ledger board.now))
+    }
 {
     let mut lines = [0; LONGEST_LIST];
     let written = list_pairs(board, &mut lines)?;
@@ -104,10 +114,14 @@ fn push_pairs<B: Book, R: Ranking>(board: &Board<B, R>, text: &mut Vec<u8>) -> R
 }
 
 // Plays the input on a fresh board of 256 loads, with at most 2,048 links and the lower number first.
-#[tactic(auto, using(crate::proofs::Playing::played_out))]
+#[tactic(
+    auto,
+    using(crate::proofs::Playing::played_out, crate::proofs::Law::keeps_law)
+)]
 pub fn transcript(heap: Global, input: &[u8]) -> Result<Vec<u8>, Failure>
     ensures ends { Ends (transcribing input.now) result (λ v. v.items ≡ transcript input.now) }
     ensures whole { PlayedOut }
+    ensures law { KeepsLaw input.now }
 {
     let mut words = [0; 1024];
     let mut board = Board::open(BitMatrix::new(256, 2048, &mut words), ByNumber);

@@ -6,4 +6,4 @@ use Rattle.transcript.proofs.push_pairs.Goals as goal
 
 pub returns-in_err-written : goal.returns-in_err-written
 returns-in_err-written g c = λ stood.
-    absurd (pairs_fit c.args.board.now (replicate {A = ℕ} 1024 0) (told c.in_err-written.field-0.0) stood (length-replicate {A = ℕ} 1024 0) (c.in_err-written.ensures.lists stood).answers)
+    absurd (pairs_fit c.args.board.now (replicate {A = ℕ} 1024 0) (told c.in_err-written.field-0.0) stood (length-replicate {A = ℕ} 1024 0) (c.in_err-written.ensures.answers stood))

@@ -1,5 +1,6 @@
 use Rattle.std.proofs.Common.{ℕ, take, replicate, vec_items, refl}
 use Rattle.std.proofs.lemmas.Slice.{pushed}
+use Rattle.stream.proofs.Stepping.{ranking_kept}
 use Rattle.transcript.proofs.Playing.{step_granted}
 use Rattle.transcript.proofs.Writing.{line_first}
 use Rattle.transcript.proofs.push_step.Goals as goal
@@ -10,16 +11,16 @@ returns g c =
     let text = vec_items c.args.text.now in
     let line = take c.in_ok-stepped.stepped.written c.step.new.out in
     record {
-      ranking_is = steps.ranking_is;
+      ranking_is = ranking_kept steps;
       ends = (
         step_granted c.args.stream.now (replicate {A = ℕ} 19 0) steps.answers.0,
         λ stood.
-            let makes = steps.answers.1.1 stood in
+            let makes = steps.by_rules stood in
             record {
-              place_is = makes.place_is;
+              place_is = makes.writes.place_is;
               adds = record {
                 position_is = makes.position_is;
-                text_is = rw (line_first makes) at (pushed {X = ℕ} {was = text} {xs = text} line refl c.in_ok-extend_from_slice.was c.extend_from_slice.ensures.items);
+                text_is = rw (line_first makes.writes) at (pushed {X = ℕ} {was = text} {xs = text} line refl c.in_ok-extend_from_slice.was c.extend_from_slice.ensures.items);
                 stands = makes.stands;
               };
             },
