@@ -1,5 +1,6 @@
 -- A graph in a bit matrix.
 use Rattle.std.specs.Prelude.{◌≡◌, ℕ, ◌+◌, ◌-◌, ◌*◌, ◌/◌, ◌%◌, ◌<◌, ◌≤◌, Bool, false, cond, ◌&&◌, ◌||◌, List, [], length, take, drop, Some, None, Option, ◌==◌, nat_lt, slice_index}
+use Rattle.std.specs.Borrow.{GName}
 use Rattle.graph.specs.Graph.{Graph, degree, link_count, edgeless}
 use Rattle.links.specs.Books.{Ledger, Stands, by_book, unless_size, unless_limit}
 use Rattle.links.specs.Memory.{Cleared}
@@ -74,6 +75,24 @@ pub record Made (n limit count : ℕ) (words : List ℕ) : Type 0 where
 abbrev pub MatrixMade : BitMatrix → Type 0
 MatrixMade m = Made m.size m.tally.limit m.tally.count m.words.now
 
+-- what no call changes: whose the words are, how many, and those past the matrix; size and limit
+pub record MatrixFixed : Type 0 where
+  pub lender : GName
+  pub length : ℕ
+  pub beyond : List ℕ
+  pub size : ℕ
+  pub limit : ℕ
+
+abbrev pub matrix_fixed : BitMatrix → MatrixFixed
+matrix_fixed m =
+    record {
+      lender = m.words.ghost_name;
+      length = length m.words.now;
+      beyond = drop (all_words m.size) m.words.now;
+      size = m.size;
+      limit = m.tally.limit;
+    }
+
 -- ---- the making
 
 -- the first reason to refuse a matrix of n loads in so many words
@@ -104,7 +123,3 @@ rewritten m tally words = record { size = m.size; tally = tally; words = record 
 pub record Written (on : Bool) (test : ℕ → ℕ → Bool) (before after : List ℕ) : Type 0 where
   pub same_length : length after ≡ length before
   pub bits : (k j : ℕ) → bit (slice_index after k) j ≡ cond (test k j) on (bit (slice_index before k) j)
-
--- the memory past the matrix is as it was
-abbrev pub Beyond : ℕ → List ℕ → List ℕ → Type 0
-Beyond n before after = (k : ℕ) → all_words n ≤ k → slice_index after k ≡ slice_index before k

@@ -2,7 +2,7 @@
 ghost use Rattle.std.specs.Prelude.{◌≡◌, ◌<◌, ◌≤◌, true, false, length, is_ok};
 ghost use Rattle.links.specs.Books.{Adds, Removes};
 ghost use Rattle.links.specs.Refusals.{Answers};
-ghost use Rattle.books.specs.Matrix.{row_words, all_words, is_place, is_link_place, matrix_row, matrix_graph, matrix_ledger, MatrixMade, rewritten, checking, Making, Written, Beyond};
+ghost use Rattle.books.specs.Matrix.{row_words, all_words, is_place, is_link_place, matrix_row, matrix_graph, matrix_ledger, MatrixMade, rewritten, checking, Making, MatrixFixed, matrix_fixed, Written};
 
 use bits::{bit_of, count_bits, next_member, put_bit};
 use links::{
@@ -83,7 +83,7 @@ impl BitMatrix<'_> {
     fn put(&mut self, a: usize, b: usize, on: bool)
         ensures rest { self.new ≡ rewritten self.old self.old.tally self.new.words.now }
         ensures written { a < self.old.size → b < self.old.size → all_words self.old.size ≤ length self.old.words.now → Written on (is_place self.old.size a b) self.old.words.now self.new.words.now }
-        ensures beyond { Beyond self.old.size self.old.words.now self.new.words.now }
+        ensures stays { matrix_fixed self.new ≡ matrix_fixed self.old }
     {
         let size = usize::from(self.size);
         if a < size && b < size {
@@ -98,7 +98,7 @@ impl BitMatrix<'_> {
     fn put_link(&mut self, a: usize, b: usize, on: bool)
         ensures rest { self.new ≡ rewritten self.old self.old.tally self.new.words.now }
         ensures written { a < self.old.size → b < self.old.size → all_words self.old.size ≤ length self.old.words.now → Written on (is_link_place self.old.size a b) self.old.words.now self.new.words.now }
-        ensures beyond { Beyond self.old.size self.old.words.now self.new.words.now }
+        ensures stays { matrix_fixed self.new ≡ matrix_fixed self.old }
     {
         self.put(a, b, on);
         self.put(b, a, on);
@@ -134,6 +134,10 @@ impl Links for BitMatrix<'_> {
 impl Book for BitMatrix<'_> {
     ghost ledger = { matrix_ledger };
 
+    ghost Fixed = { MatrixFixed };
+
+    ghost fixed = { matrix_fixed };
+
     fn limit(&self) -> usize {
         self.tally.limit
     }
@@ -156,9 +160,8 @@ impl Book for BitMatrix<'_> {
 
     fn add(&mut self, a: usize, b: usize) -> Result<(), Refused>
         ensures book { Adds matrix_graph MatrixMade matrix_ledger self.old a b result self.new }
-        ensures lender { self.new.words.ghost_name ≡ self.old.words.ghost_name }
         ensures words { MatrixMade self.old → is_ok result ≡ true → Written true (is_link_place self.old.size a b) self.old.words.now self.new.words.now }
-        ensures beyond { Beyond self.old.size self.old.words.now self.new.words.now }
+        ensures stays { matrix_fixed self.new ≡ matrix_fixed self.old }
     {
         let allowance = Allowance {
             barred: false,
@@ -174,9 +177,8 @@ impl Book for BitMatrix<'_> {
 
     fn remove(&mut self, a: usize, b: usize) -> Result<(), Refused>
         ensures book { Removes matrix_graph MatrixMade matrix_ledger self.old a b result self.new }
-        ensures lender { self.new.words.ghost_name ≡ self.old.words.ghost_name }
         ensures words { MatrixMade self.old → is_ok result ≡ true → Written false (is_link_place self.old.size a b) self.old.words.now self.new.words.now }
-        ensures beyond { Beyond self.old.size self.old.words.now self.new.words.now }
+        ensures stays { matrix_fixed self.new ≡ matrix_fixed self.old }
     {
         check_remove(self, a, b)?;
         self.put_link(a, b, false);

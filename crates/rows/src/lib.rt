@@ -7,7 +7,7 @@ ghost use Rattle.links.specs.Books.{Adds, Removes};
 ghost use Rattle.links.specs.Refusals.{Answers};
 ghost use Rattle.row.specs.Row.{row_with, row_without};
 ghost use Rattle.row.specs.Memory.{BothChanged};
-ghost use Rattle.rows.specs.Rows.{Whole, book_row, book_graph, book_ledger, BookMade, checking, Making, Written};
+ghost use Rattle.rows.specs.Rows.{Whole, book_row, book_graph, book_ledger, BookMade, RowsFixed, rows_fixed, checking, Making, Written};
 
 use links::{
     Allowance, Book, Layer, Links, Refusal, Refused, Tally, check_add, check_limit, check_remove,
@@ -126,6 +126,10 @@ impl Links for SortedRows<'_> {
 impl Book for SortedRows<'_> {
     ghost ledger = { book_ledger };
 
+    ghost Fixed = { RowsFixed };
+
+    ghost fixed = { rows_fixed };
+
     fn limit(&self) -> usize {
         self.tally.limit
     }
@@ -148,7 +152,7 @@ impl Book for SortedRows<'_> {
     fn add(&mut self, a: usize, b: usize) -> Result<(), Refused>
         ensures book { Adds book_graph BookMade book_ledger self.old a b result self.new }
         ensures written { Written row_with self.old a b result self.new }
-        ensures lender { self.new.rows.ghost_name ≡ self.old.rows.ghost_name }
+        ensures stays { rows_fixed self.new ≡ rows_fixed self.old }
     {
         let allowance = Allowance {
             barred: false,
@@ -166,7 +170,7 @@ impl Book for SortedRows<'_> {
     fn remove(&mut self, a: usize, b: usize) -> Result<(), Refused>
         ensures book { Removes book_graph BookMade book_ledger self.old a b result self.new }
         ensures written { Written row_without self.old a b result self.new }
-        ensures lender { self.new.rows.ghost_name ≡ self.old.rows.ghost_name }
+        ensures stays { rows_fixed self.new ≡ rows_fixed self.old }
     {
         check_remove(self, a, b)?;
         let (size, row_limit) = (self.size, self.row_limit);

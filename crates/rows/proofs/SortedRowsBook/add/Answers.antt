@@ -1,4 +1,4 @@
-use Rattle.std.proofs.Common.{refl, arith}
+use Rattle.std.proofs.Common.{refl, arith, rules}
 use Rattle.links.proofs.Reasons.{adding_none, refused_by, kept_same}
 use Rattle.row.specs.declared.Change.TheVariants.{Insert}
 use Rattle.rows.specs.Rows.{book_ledger, BookMade}
@@ -29,6 +29,6 @@ returns c =
         answers = λ made.
             (none made, stands_after Insert _ _ _ _ _ _ _ _ (after made) (c.add_one.ensures.counted (omega (arith, (can made).room))) c.change_both.ensures);
       };
-      written = record { size = refl; row_limit = refl; memory = λ made _. c.change_both.ensures.rows (after made).able; beyond = c.change_both.ensures.beyond };
-      lender = refl;
+      written = λ made _. c.change_both.ensures.rows (after made).able;
+      stays = search rules;
     }

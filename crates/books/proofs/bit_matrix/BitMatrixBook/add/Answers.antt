@@ -20,9 +20,8 @@ pub returns : goal.returns
 returns c =
     record {
       book = record { kept = tt; answers = λ made. (none made, grown c.args.self.now _ c.args.a c.args.b made (can made) (after made) (c.put_link.ensures.written (can made).two.a_below (can made).two.b_below made.enough)) };
-      lender = search rules;
       words = λ made _. c.put_link.ensures.written (can made).two.a_below (can made).two.b_below made.enough;
-      beyond = c.put_link.ensures.beyond;
+      stays = search rules;
     }
   where
     none : MatrixMade c.args.self.now → adding (matrix_graph c.args.self.now) (matrix_ledger c.args.self.now) c.args.a c.args.b ≡ None
