@@ -1,3 +1,4 @@
 pub mod Cells
 pub mod Fresh
+pub mod Full
 pub mod Writes

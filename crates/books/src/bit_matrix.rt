@@ -6,7 +6,7 @@ ghost use Rattle.books.specs.Matrix.{row_words, all_words, is_place, is_link_pla
 
 use bits::{bit_of, count_bits, next_member, put_bit};
 use links::{
-    Allowance, Book, Layer, Links, Refusal, Refused, Tally, check_add, check_limit, check_remove,
+    Book, Layer, Links, Refusal, Refused, Tally, check_limit, check_open, check_remove, check_room,
     check_size,
 };
 
@@ -163,13 +163,9 @@ impl Book for BitMatrix<'_> {
         ensures words { MatrixMade self.old → is_ok result ≡ true → Written true (is_link_place self.old.size a b) self.old.words.now self.new.words.now }
         ensures stays { matrix_fixed self.new ≡ matrix_fixed self.old }
     {
-        let allowance = Allowance {
-            barred: false,
-            spare_a: self.spare(a),
-            spare_b: self.spare(b),
-            room: self.room(),
-        };
-        check_add(self, a, b, allowance)?;
+        check_open(self, a, b, false)?;
+        // a load without a spare is linked to every other, so no spare has to be asked for
+        check_room(self.room())?;
         self.put_link(a, b, true);
         self.tally.add_one();
         Ok(())

@@ -10,8 +10,8 @@ ghost use Rattle.row.specs.Memory.{BothChanged};
 ghost use Rattle.rows.specs.Rows.{Whole, book_row, book_graph, book_ledger, BookMade, RowsFixed, rows_fixed, checking, Making, Written};
 
 use links::{
-    Allowance, Book, Layer, Links, Refusal, Refused, Tally, check_add, check_limit, check_remove,
-    check_size, check_within,
+    Allowance, Book, Layer, Links, Refusal, Refused, Tally, check_left, check_limit, check_open,
+    check_remove, check_size, check_within,
 };
 use rise::first_unordered;
 use row::{Change, change_row, position, row_loads};
@@ -154,13 +154,12 @@ impl Book for SortedRows<'_> {
         ensures written { Written row_with self.old a b result self.new }
         ensures stays { rows_fixed self.new ≡ rows_fixed self.old }
     {
-        let allowance = Allowance {
-            barred: false,
+        check_open(self, a, b, false)?;
+        check_left(Allowance {
             spare_a: self.spare(a),
             spare_b: self.spare(b),
             room: self.room(),
-        };
-        check_add(self, a, b, allowance)?;
+        })?;
         let (size, row_limit) = (self.size, self.row_limit);
         change_both(self.rows, size, row_limit, a, b, Change::Insert);
         self.tally.add_one();
