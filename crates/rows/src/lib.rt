@@ -9,6 +9,8 @@ ghost use Rattle.row.specs.Row.{row_with, row_without};
 ghost use Rattle.row.specs.Memory.{BothChanged};
 ghost use Rattle.rows.specs.Rows.{Whole, book_row, book_graph, book_ledger, BookMade, RowsFixed, rows_fixed, checking, Making, Written};
 
+pub mod theorems;
+
 use links::{
     Allowance, Book, Layer, Links, Refusal, Refused, Tally, check_left, check_limit, check_open,
     check_remove, check_size, check_within,
