@@ -23,7 +23,7 @@ all_words n = n * row_words n
 abbrev pub word_at : ℕ → ℕ → ℕ → ℕ
 word_at n a b = a * row_words n + b / 64
 
--- the words of row a; none from n on
+-- the words of row a, as far as there are words; none from n on
 abbrev pub matrix_row : ℕ → List ℕ → ℕ → List ℕ
 matrix_row n words a = cond (nat_lt a n) (take (row_words n) (drop (a * row_words n) words)) []
 
@@ -123,3 +123,7 @@ rewritten m tally words = record { size = m.size; tally = tally; words = record 
 pub record Written (on : Bool) (test : ℕ → ℕ → Bool) (before after : List ℕ) : Type 0 where
   pub same_length : length after ≡ length before
   pub bits : (k j : ℕ) → bit (slice_index after k) j ≡ cond (test k j) on (bit (slice_index before k) j)
+
+-- a and b are two loads, and word k is there
+abbrev pub held : BitMatrix → ℕ → ℕ → ℕ → Bool
+held m a b k = nat_lt a m.size && (nat_lt b m.size && nat_lt k (length m.words.now))

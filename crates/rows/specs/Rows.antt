@@ -32,12 +32,9 @@ pub record RowsMade (n d limit count : ℕ) (memory : List ℕ) : Type 0 where
   pub counted : count ≡ link_count (graph_of n d memory)
   pub within : count ≤ limit
 
--- how many numbers of the memory the book uses, and that they are there
+-- how many numbers of the memory the book uses
 abbrev pub book_need : SortedRows → ℕ
 book_need s = s.size * (s.row_limit + 1)
-
-abbrev pub Whole : SortedRows → Type 0
-Whole s = book_need s ≤ length s.rows.now
 
 abbrev pub book_row : SortedRows → ℕ → List ℕ
 book_row s a = loads_of_row s.size s.row_limit s.rows.now a

@@ -7,7 +7,7 @@ ghost use Rattle.links.specs.Books.{Adds, Removes};
 ghost use Rattle.links.specs.Refusals.{Answers};
 ghost use Rattle.row.specs.Row.{row_with, row_without};
 ghost use Rattle.row.specs.Memory.{BothChanged};
-ghost use Rattle.rows.specs.Rows.{Whole, book_row, book_graph, book_ledger, BookMade, RowsFixed, rows_fixed, checking, Making, Written};
+ghost use Rattle.rows.specs.Rows.{book_row, book_graph, book_ledger, BookMade, RowsFixed, rows_fixed, checking, Making, Written};
 
 pub mod theorems;
 
@@ -72,14 +72,14 @@ impl<'a> SortedRows<'a> {
 impl SortedRows<'_> {
     // The loads in row a.
     fn row(&self, a: usize) -> &[u16]
-        ensures { Whole self.now → result.now ≡ book_row self.now a }
+        ensures { result.now ≡ book_row self.now a }
     {
         row_loads(self.rows, self.size, self.row_limit, a)
     }
 
     // The index, among the loads of row a, of the first that does not come after the one before it.
     pub fn row_break(&self, a: usize) -> Option<usize>
-        ensures first { Whole self.now → MatchOption result (Rises nat_lt (book_row self.now a)) (λ i. FirstUnordered nat_lt (book_row self.now a) i) }
+        ensures first { MatchOption result (Rises nat_lt (book_row self.now a)) (λ i. FirstUnordered nat_lt (book_row self.now a) i) }
         ensures none { BookMade self.now → result ≡ None }
     {
         first_unordered(self.row(a))

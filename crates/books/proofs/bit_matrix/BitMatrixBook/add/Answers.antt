@@ -1,11 +1,11 @@
-use Rattle.std.proofs.Common.{◌≡◌, ℕ, ◌+◌, ◌<◌, false, None, sym, ap, ◌∙◌, subst, arith, rules}
+use Rattle.std.proofs.Common.{◌≡◌, ℕ, ◌+◌, ◌<◌, true, false, None, sym, ap, ◌∙◌, subst, arith, rules}
 use Rattle.links.specs.Books.{adding, unless_room}
 use Rattle.links.specs.declared.tally.Tally.{Tally}
 use Rattle.links.proofs.Reasons.{Addable, adding_none, open_refused, refused_by, kept_same}
 use Rattle.books.specs.declared.bit_matrix.BitMatrix.{BitMatrix}
-use Rattle.books.specs.Matrix.{matrix_graph, MatrixMade, matrix_ledger, rewritten}
+use Rattle.books.specs.Matrix.{matrix_graph, MatrixMade, matrix_ledger, rewritten, is_link_place, Written}
 use Rattle.books.proofs.Full.{adding_open}
-use Rattle.books.proofs.Writes.{grown}
+use Rattle.books.proofs.Writes.{link_written, grown}
 use Rattle.books.proofs.bit_matrix.BitMatrixBook.add.Goals as goal
 
 pub returns-in_err-check_open-clause-book : goal.returns-in_err-check_open-clause-book
@@ -30,8 +30,8 @@ returns-in_err-check_room-clause-book c =
 pub returns : goal.returns
 returns c =
     record {
-      book = record { kept = tt; answers = λ made. (none made, grown c.args.self.now _ c.args.a c.args.b made (can made) (after made) (c.put_link.ensures.written (can made).two.a_below (can made).two.b_below made.enough)) };
-      words = λ made _. c.put_link.ensures.written (can made).two.a_below (can made).two.b_below made.enough;
+      book = record { kept = tt; answers = λ made. (none made, grown c.args.self.now _ c.args.a c.args.b made (can made) (after made) (written made)) };
+      words = λ made _. written made;
       stays = search rules;
     }
   where
@@ -42,6 +42,9 @@ returns c =
 
     can : MatrixMade c.args.self.now → Addable (matrix_graph c.args.self.now) (matrix_ledger c.args.self.now) c.args.a c.args.b
     can made = adding_none (matrix_graph c.args.self.now) (matrix_ledger c.args.self.now) c.args.a c.args.b (none made)
+
+    written : (made : MatrixMade c.args.self.now) → Written true (is_link_place c.args.self.now.size c.args.a c.args.b) c.args.self.now.words.now c.put_link.new.self.words.now
+    written made = link_written true c.args.self.now _ c.args.a c.args.b made (can made).two c.put_link.ensures.written
 
     same : c.put_link.new.self.tally ≡ c.args.self.now.tally
     same = ap (λ (m : BitMatrix). m.tally) c.put_link.ensures.rest
