@@ -2,10 +2,10 @@
 // bit b mod 64 of its word.
 #![tactic(auto)]
 
-ghost use Rattle.std.specs.Prelude.{◌≡◌, ℕ, ◌%◌, ◌≤◌, ◌<◌, ◌*◌, not, ◌&&◌, ◌||◌, ◌==◌, if◌then◌else◌, nat_eq, length, IfSome};
+ghost use Rattle.std.specs.Prelude.{◌≡◌, ℕ, ◌%◌, ◌≤◌, ◌<◌, ◌*◌, ◌^◌, not, ◌&&◌, ◌||◌, ◌==◌, if◌then◌else◌, nat_eq, length, IfSome};
 ghost use Rattle.graph.specs.Graph.{count, Next};
 ghost use Rattle.bits.specs.Bit.{bit, NextBit};
-ghost use Rattle.bits.specs.Words.{member};
+ghost use Rattle.bits.specs.Words.{member, NextNamed};
 
 // Whether the bit at `place` is 1.
 pub fn bit_of(word: u64, place: usize) -> bool
@@ -61,12 +61,14 @@ pub fn put_bit(word: u64, place: usize, on: bool) -> u64
     }
 }
 
-// Of a longer row only so many words are searched, so that no number overflows.
-const LONGEST_ROW: usize = 1024;
+// How many words have all the numbers that a usize can name.
+const NAMED_WORDS: usize = 1 << 58;
 
-// The smallest member, at or above `from`, of the set that a row of words is.
+/// The smallest member, at or above `from`, of the set that a row of words is; of a row so long that a usize cannot name all
+/// its numbers, the smallest that it can. Costs a look at each word up to the member.
 pub fn next_member(words: &[u64], from: usize) -> Option<usize>
-    ensures next { length words.now ≤ 1024 → Next (member words.now) from result }
+    ensures named { NextNamed words.now from result }
+    ensures next { length words.now ≤ 2 ^ 58 → Next (member words.now) from result }
     ensures bound { IfSome result (λ b. b < 64 * length words.now) }
 {
     let first = from / 64;
@@ -77,7 +79,7 @@ pub fn next_member(words: &[u64], from: usize) -> Option<usize>
     if let Some(j) = next_bit(words[first], from % 64) {
         return Some(64 * first + j);
     }
-    for k in first + 1..words.len().min(LONGEST_ROW) {
+    for k in first + 1..words.len().min(NAMED_WORDS) {
         let word = words[k];
         if word != 0 {
             return Some(64 * k + word.trailing_zeros() as usize);

@@ -10,6 +10,7 @@ use Rattle.bits.specs.Bit.{bit}
 use Rattle.bits.proofs.Bitwise.{bit_zero}
 use Rattle.books.specs.declared.bit_matrix.BitMatrix.{BitMatrix}
 use Rattle.books.specs.Matrix.{row_words, all_words, word_at, cell, is_place, matrix_row, matrix, matrix_graph, MatrixMade}
+use Rattle.books.specs.Theorems.{WordsHold}
 use Rattle.bits.specs.Words.{member}
 use Rattle.bits.proofs.Words.{member_past}
 
@@ -83,6 +84,28 @@ row_degree m made a =
     (λ l. count_cut _ m.size ((matrix_graph m).linked a) (omega (arith, length_row m made a l)) (λ b h _. linked_past m.size m.words.now a b h))
     (λ l. count_none _ _ (λ b _. linked_past_row m.size m.words.now a b l) ∙ sym (count_none m.size _ (λ b _. linked_past_row m.size m.words.now a b l)))
     (cases_lt a m.size)
+
+-- word i of row a, bit by bit
+pub words_hold : (m : BitMatrix) → MatrixMade m → WordsHold (matrix_graph m) m.words.now
+unfolding cell
+words_hold m made =
+    record {
+      links = λ a i j l k h.
+          here a i j h ∙ ⊎_elim
+          (λ in-row. sym (linked_in m.size m.words.now a (64 * i + j) l in-row))
+          (λ past. none a i j l k h past ∙ sym (linked_past m.size m.words.now a (64 * i + j) past))
+          (cases_lt (64 * i + j) m.size);
+      padding = λ a i j l k h past. here a i j h ∙ none a i j l k h past;
+    }
+  where
+    here : (a i j : ℕ) → j < 64 → bit (get_or m.words.now (a * row_words m.size + i) 0) j ≡ cell m.size m.words.now a (64 * i + j)
+    here a i j h =
+        let word : i ≡ (64 * i + j) / 64 = omega arith in
+        let place : j ≡ (64 * i + j) % 64 = omega arith in
+        ap₂ (λ (x y : ℕ). bit (get_or m.words.now (a * row_words m.size + x) 0) y) word place
+
+    none : (a i j : ℕ) → a < m.size → i < row_words m.size → j < 64 → m.size ≤ 64 * i + j → cell m.size m.words.now a (64 * i + j) ≡ false
+    none a i j l k h past = made.padded a (64 * i + j) l past (omega (arith, k, h))
 
 pub word_in : (n a b : ℕ) → a < n → b < 64 * row_words n → word_at n a b < all_words n
 word_in n a b l m = omega (arith, mul-add-lt a (row_words n) (b / 64) n l (omega arith))

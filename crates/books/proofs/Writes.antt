@@ -1,7 +1,7 @@
 -- A bit matrix after the two bits of a link were written.
-use Rattle.std.proofs.Common.{◌≡◌, ℕ, ◌+◌, ◌-◌, ◌*◌, ◌%◌, ◌<◌, ◌≤◌, Bool, true, false, cond, not, ◌&&◌, ◌||◌, eqb, ltb, List, get_or, sym, refl, subst, ap, ◌∙◌, ap₂, ⊎_elim, arith}
+use Rattle.std.proofs.Common.{◌≡◌, ℕ, ◌+◌, ◌-◌, ◌*◌, ◌%◌, ◌<◌, ◌≤◌, Bool, true, false, cond, not, ◌&&◌, ◌||◌, eqb, ltb, List, length, get_or, sym, refl, subst, ap, ◌∙◌, ap₂, ⊎_elim, arith}
 use mathlib.Core.Bool.{and_comm}
-use Rattle.std.proofs.lemmas.Bool.{cases_lt}
+use Rattle.std.proofs.lemmas.Bool.{cases_lt, lt-ltb, ne_eqb, or_from, and_left, and_right}
 use Rattle.graph.specs.Graph.{Graph, Simple, count, is_pair, added, removed, degree, link_count}
 use Rattle.graph.proofs.Counts.{count_lt, not_pair}
 use Rattle.graph.proofs.Ends.{pair_swap, pair_past}
@@ -11,8 +11,28 @@ use Rattle.links.proofs.Spares.{left_less, left_more}
 use Rattle.links.proofs.Reasons.{TwoLoads, Addable, Removable}
 use Rattle.bits.specs.Bit.{bit}
 use Rattle.books.specs.declared.bit_matrix.BitMatrix.{BitMatrix}
-use Rattle.books.specs.Matrix.{row_words, word_at, cell, is_link_place, matrix, matrix_graph, MatrixMade, matrix_ledger, rewritten, Written}
-use Rattle.books.proofs.Cells.{linked_in, linked_past, linked_past_row, same_place, made_simple}
+use Rattle.books.specs.Matrix.{row_words, word_at, cell, held, is_place, is_link_place, matrix, matrix_graph, MatrixMade, matrix_ledger, rewritten, Written}
+use Rattle.books.proofs.Cells.{linked_in, linked_past, linked_past_row, same_place, word_in, made_simple}
+
+-- of two loads of a made matrix both words are there
+pub link_written : (on : Bool) (s : BitMatrix) (after : List ℕ) (a b : ℕ) → MatrixMade s → TwoLoads s.size a b → Written on (λ k j. held s a b k && is_link_place s.size a b k j) s.words.now after → Written on (is_link_place s.size a b) s.words.now after
+link_written on s after a b made two w =
+    record {
+      same_length = w.same_length;
+      bits = λ k j. w.bits k j ∙ ap (λ (t : Bool). cond t on (bit (get_or s.words.now k 0) j)) (there k j);
+    }
+  where
+    off : (x y k j : ℕ) → x < s.size → y < s.size → length s.words.now ≤ k → is_place s.size x y k j ≡ false
+    off x y k j l m past = and_left _ _ (ne_eqb (word_at s.size x y) k (λ e. omega (arith, e, word_in s.size x y l (omega arith), made.enough)))
+
+    there : (k j : ℕ) → (held s a b k && is_link_place s.size a b k j) ≡ is_link_place s.size a b k j
+    there k j =
+        ⊎_elim
+        (λ l. rw (lt-ltb a s.size two.a_below, lt-ltb b s.size two.b_below, lt-ltb k (length s.words.now) l))
+        (λ past.
+        let none : is_link_place s.size a b k j ≡ false = or_from _ _ (off a b k j two.a_below two.b_below past) (off b a k j two.b_below two.a_below past) in
+        and_right (held s a b k) _ none ∙ sym none)
+        (cases_lt k (length s.words.now))
 
 module _ (on : Bool) (s : BitMatrix) (after : List ℕ) (a b : ℕ) (made : MatrixMade s) (two : TwoLoads s.size a b) (w : Written on (is_link_place s.size a b) s.words.now after) where
   cells : (x y : ℕ) → y < 64 * row_words s.size → cell s.size after x y ≡ cond (is_pair a b x y) on (cell s.size s.words.now x y)

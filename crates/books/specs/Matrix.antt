@@ -1,5 +1,6 @@
 -- A graph in a bit matrix.
 use Rattle.std.specs.Prelude.{◌≡◌, ℕ, ◌+◌, ◌-◌, ◌*◌, ◌/◌, ◌%◌, ◌<◌, ◌≤◌, Bool, false, cond, ◌&&◌, ◌||◌, List, [], length, take, drop, Some, None, Option, ◌==◌, nat_lt, slice_index}
+use Rattle.std.specs.Borrow.{GName}
 use Rattle.graph.specs.Graph.{Graph, degree, link_count, edgeless}
 use Rattle.links.specs.Books.{Ledger, Stands, by_book, unless_size, unless_limit}
 use Rattle.links.specs.Memory.{Cleared}
@@ -22,7 +23,7 @@ all_words n = n * row_words n
 abbrev pub word_at : ℕ → ℕ → ℕ → ℕ
 word_at n a b = a * row_words n + b / 64
 
--- the words of row a; none from n on
+-- the words of row a, as far as there are words; none from n on
 abbrev pub matrix_row : ℕ → List ℕ → ℕ → List ℕ
 matrix_row n words a = cond (nat_lt a n) (take (row_words n) (drop (a * row_words n) words)) []
 
@@ -74,6 +75,24 @@ pub record Made (n limit count : ℕ) (words : List ℕ) : Type 0 where
 abbrev pub MatrixMade : BitMatrix → Type 0
 MatrixMade m = Made m.size m.tally.limit m.tally.count m.words.now
 
+-- what no call changes: whose the words are, how many, and those past the matrix; size and limit
+pub record MatrixFixed : Type 0 where
+  pub lender : GName
+  pub length : ℕ
+  pub beyond : List ℕ
+  pub size : ℕ
+  pub limit : ℕ
+
+abbrev pub matrix_fixed : BitMatrix → MatrixFixed
+matrix_fixed m =
+    record {
+      lender = m.words.ghost_name;
+      length = length m.words.now;
+      beyond = drop (all_words m.size) m.words.now;
+      size = m.size;
+      limit = m.tally.limit;
+    }
+
 -- ---- the making
 
 -- the first reason to refuse a matrix of n loads in so many words
@@ -105,6 +124,6 @@ pub record Written (on : Bool) (test : ℕ → ℕ → Bool) (before after : Lis
   pub same_length : length after ≡ length before
   pub bits : (k j : ℕ) → bit (slice_index after k) j ≡ cond (test k j) on (bit (slice_index before k) j)
 
--- the memory past the matrix is as it was
-abbrev pub Beyond : ℕ → List ℕ → List ℕ → Type 0
-Beyond n before after = (k : ℕ) → all_words n ≤ k → slice_index after k ≡ slice_index before k
+-- a and b are two loads, and word k is there
+abbrev pub held : BitMatrix → ℕ → ℕ → ℕ → Bool
+held m a b k = nat_lt a m.size && (nat_lt b m.size && nat_lt k (length m.words.now))

@@ -1,12 +1,12 @@
 // A link book that holds a bit for each ordered pair of loads.
-ghost use Rattle.std.specs.Prelude.{◌≡◌, ◌<◌, ◌≤◌, true, false, length, is_ok};
+ghost use Rattle.std.specs.Prelude.{◌≡◌, ◌≤◌, true, false, ◌&&◌, length, is_ok};
 ghost use Rattle.links.specs.Books.{Adds, Removes};
 ghost use Rattle.links.specs.Refusals.{Answers};
-ghost use Rattle.books.specs.Matrix.{row_words, all_words, is_place, is_link_place, matrix_row, matrix_graph, matrix_ledger, MatrixMade, rewritten, checking, Making, Written, Beyond};
+ghost use Rattle.books.specs.Matrix.{row_words, is_place, is_link_place, held, matrix_row, matrix_graph, matrix_ledger, MatrixMade, rewritten, checking, Making, MatrixFixed, matrix_fixed, Written};
 
 use bits::{bit_of, count_bits, next_member, put_bit};
 use links::{
-    Allowance, Book, Layer, Links, Refusal, Refused, Tally, check_add, check_limit, check_remove,
+    Book, Layer, Links, Refusal, Refused, Tally, check_limit, check_open, check_remove, check_room,
     check_size,
 };
 
@@ -66,9 +66,9 @@ impl<'a> BitMatrix<'a> {
 }
 
 impl BitMatrix<'_> {
-    // The words of row a.
+    // The words of row a, as far as there are words.
     fn row(&self, a: usize) -> &[u64]
-        ensures value { all_words self.now.size ≤ length self.now.words.now → result.now ≡ matrix_row self.now.size self.now.words.now a }
+        ensures value { result.now ≡ matrix_row self.now.size self.now.words.now a }
         ensures bound { length result.now ≤ 1024 }
     {
         let size = usize::from(self.size);
@@ -76,14 +76,19 @@ impl BitMatrix<'_> {
             return &[];
         }
         let width = row_words(size);
-        self.words.get(a * width..(a + 1) * width).unwrap_or(&[])
+        let start = self.words.len().min(a * width);
+        let end = self.words.len().min(start + width);
+        &self.words[start..end]
     }
 
-    // Puts the bit of load b in row a to `on`. Nothing is written past the matrix.
+    // Puts the bit of load b in row a to `on`, where these are loads and there is a word for it. Nothing else is written.
     fn put(&mut self, a: usize, b: usize, on: bool)
         ensures rest { self.new ≡ rewritten self.old self.old.tally self.new.words.now }
-        ensures written { a < self.old.size → b < self.old.size → all_words self.old.size ≤ length self.old.words.now → Written on (is_place self.old.size a b) self.old.words.now self.new.words.now }
-        ensures beyond { Beyond self.old.size self.old.words.now self.new.words.now }
+        ensures written {
+            let m = self.old in
+            Written on (λ k j. held m a b k && is_place m.size a b k j) m.words.now self.new.words.now
+        }
+        ensures stays { matrix_fixed self.new ≡ matrix_fixed self.old }
     {
         let size = usize::from(self.size);
         if a < size && b < size {
@@ -94,11 +99,14 @@ impl BitMatrix<'_> {
         }
     }
 
-    // Puts the two bits of the link of a and b to `on`.
+    // The same for the two bits of the link of a and b.
     fn put_link(&mut self, a: usize, b: usize, on: bool)
         ensures rest { self.new ≡ rewritten self.old self.old.tally self.new.words.now }
-        ensures written { a < self.old.size → b < self.old.size → all_words self.old.size ≤ length self.old.words.now → Written on (is_link_place self.old.size a b) self.old.words.now self.new.words.now }
-        ensures beyond { Beyond self.old.size self.old.words.now self.new.words.now }
+        ensures written {
+            let m = self.old in
+            Written on (λ k j. held m a b k && is_link_place m.size a b k j) m.words.now self.new.words.now
+        }
+        ensures stays { matrix_fixed self.new ≡ matrix_fixed self.old }
     {
         self.put(a, b, on);
         self.put(b, a, on);
@@ -134,6 +142,10 @@ impl Links for BitMatrix<'_> {
 impl Book for BitMatrix<'_> {
     ghost ledger = { matrix_ledger };
 
+    ghost Fixed = { MatrixFixed };
+
+    ghost fixed = { matrix_fixed };
+
     fn limit(&self) -> usize {
         self.tally.limit
     }
@@ -156,17 +168,12 @@ impl Book for BitMatrix<'_> {
 
     fn add(&mut self, a: usize, b: usize) -> Result<(), Refused>
         ensures book { Adds matrix_graph MatrixMade matrix_ledger self.old a b result self.new }
-        ensures lender { self.new.words.ghost_name ≡ self.old.words.ghost_name }
         ensures words { MatrixMade self.old → is_ok result ≡ true → Written true (is_link_place self.old.size a b) self.old.words.now self.new.words.now }
-        ensures beyond { Beyond self.old.size self.old.words.now self.new.words.now }
+        ensures stays { matrix_fixed self.new ≡ matrix_fixed self.old }
     {
-        let allowance = Allowance {
-            barred: false,
-            spare_a: self.spare(a),
-            spare_b: self.spare(b),
-            room: self.room(),
-        };
-        check_add(self, a, b, allowance)?;
+        check_open(self, a, b, false)?;
+        // a load without a spare is linked to every other, so no spare has to be asked for
+        check_room(self.room())?;
         self.put_link(a, b, true);
         self.tally.add_one();
         Ok(())
@@ -174,9 +181,8 @@ impl Book for BitMatrix<'_> {
 
     fn remove(&mut self, a: usize, b: usize) -> Result<(), Refused>
         ensures book { Removes matrix_graph MatrixMade matrix_ledger self.old a b result self.new }
-        ensures lender { self.new.words.ghost_name ≡ self.old.words.ghost_name }
         ensures words { MatrixMade self.old → is_ok result ≡ true → Written false (is_link_place self.old.size a b) self.old.words.now self.new.words.now }
-        ensures beyond { Beyond self.old.size self.old.words.now self.new.words.now }
+        ensures stays { matrix_fixed self.new ≡ matrix_fixed self.old }
     {
         check_remove(self, a, b)?;
         self.put_link(a, b, false);

@@ -2,3 +2,4 @@
 #![tactic(auto)]
 
 pub mod bit_matrix;
+pub mod theorems;

@@ -1,5 +1,5 @@
 -- A change of the book below, seen through a filter.
-use Rattle.std.proofs.Common.{◌≡◌, ℕ, Bool, false, Ok, Err, Option, Result, ap, ◌∙◌, ap₂}
+use Rattle.std.proofs.Common.{◌≡◌, ℕ, Bool, false, OnOk, Ok, Err, Option, Result, ap, ◌∙◌, ap₂}
 use Rattle.graph.specs.Graph.{Graph}
 use Rattle.links.specs.declared.refusal.Refused.{Refused}
 use Rattle.links.specs.Books.{Ledger, Stands, Adds, Removes}
@@ -11,6 +11,10 @@ use Rattle.filter.proofs.Filtered.{hidden_symmetric, adding_filtered, removing_f
 kept_map : {A S T : Type 0} (f : S → T) (r : Result A Refused) (s t : S) → Kept r s t → Kept r (f s) (f t)
 kept_map f (Ok x) s t k = tt
 kept_map f (Err e) s t k = ap f k
+
+pub granted_below : (M P : Type 0) (reason : Option Reason) (r : Result Unit Refused) → (M → Answers reason r (λ _. P)) → OnOk r (M → P)
+granted_below M P reason (Ok x) answers = λ made. (answers made).1
+granted_below M P reason (Err e) answers = tt
 
 module _ {B : Type 0} (graph : B → Graph) (made : B → Type 0) (ledger : B → Ledger) (s : ClassFilter B) (t : B) (a b : ℕ) (r : Result Unit Refused) (seen : hidden s.classes s.bars a b ≡ false) where
   hid : ℕ → ℕ → Bool

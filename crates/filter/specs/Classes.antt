@@ -1,9 +1,10 @@
 -- Classes of loads, and what barred pairs of classes leave of a graph and of a ledger.
-use Rattle.std.specs.Prelude.{ℕ, min, Bool, cond, not, ◌&&◌, ◌||◌, List, Option, Some, None, nat_lt, slice_index}
-use Rattle.graph.specs.Graph.{Graph}
+use Rattle.std.specs.Prelude.{ℕ, min, Bool, cond, not, ◌&&◌, ◌||◌, List, Option, Some, None, Result, OnOk, nat_lt, slice_index}
+use Rattle.graph.specs.Graph.{Graph, added, removed}
 use Rattle.links.specs.declared.refusal.Layer.TheVariants.{Book}
 use Rattle.links.specs.declared.refusal.Refusal.{Refusal}
-use Rattle.links.specs.Books.{Ledger, unless_two_of}
+use Rattle.links.specs.declared.refusal.Refused.{Refused}
+use Rattle.links.specs.Books.{Ledger, Stands, lowered, raised, unless_two_of}
 use Rattle.links.specs.Refusals.{Reason, told}
 use Rattle.bits.specs.Bit.{bit}
 use Rattle.filter.specs.declared.ClassFilter.{ClassFilter}
@@ -40,8 +41,26 @@ FilterMade made f = made f.below
 abbrev pub filter_ledger : {B : Type 0} → (B → Graph) → (B → Ledger) → ClassFilter B → Ledger
 filter_ledger graph ledger f = filtered_ledger (hidden f.classes f.bars) (graph f.below).size (ledger f.below)
 
+-- what no call changes: classes, bars, and what the book below never changes
+pub record FilterFixed (F : Type 0) : Type 0 where
+  pub classes : List ℕ
+  pub bars : List ℕ
+  pub below : F
+
+abbrev pub filter_fixed : {B F : Type 0} → (B → F) → ClassFilter B → FilterFixed F
+filter_fixed fixed f = record { classes = f.classes; bars = f.bars; below = fixed f.below }
+
 -- ---- a change of one link
 
 -- the first reason to refuse a change of the link of a and b before the book below is asked
 abbrev pub unless_visible : (ℕ → ℕ → Bool) → ℕ → ℕ → ℕ → Refusal → Option Reason
 unless_visible hid n a b refusal = unless_two_of Book n a b (cond (hid a b) (Some (told (record { refusal = refusal; layer = Book }))) None)
+
+module _ {B : Type 0} (graph : B → Graph) (made : B → Type 0) (ledger : B → Ledger) (s : B) (a b : ℕ) (r : Result Unit Refused) (t : B) where
+  -- where adding the link of a and b is granted, the book below, which was s and is t, has just that link more
+  abbrev pub AddedBelow : Type 0
+  AddedBelow = OnOk r (made s → Stands graph made ledger t (added (graph s) a b) (lowered (ledger s) a b))
+
+  -- the same of removing it: just that link less
+  abbrev pub RemovedBelow : Type 0
+  RemovedBelow = OnOk r (made s → Stands graph made ledger t (removed (graph s) a b) (raised (ledger s) a b))

@@ -3,9 +3,9 @@
 
 ghost use Rattle.std.specs.Prelude.{◌≡◌, ℕ, ◌<◌, ◌≤◌, false, OnOk, slice_index};
 ghost use Rattle.graph.specs.Graph.{count};
-ghost use Rattle.links.specs.Books.{Stands};
+ghost use Rattle.links.specs.Books.{Stands, Adds, Removes};
 ghost use Rattle.links.specs.Refusals.{Answers};
-ghost use Rattle.filter.specs.Classes.{class_of, hidden, filtered, filtered_ledger, filter_graph, FilterMade, filter_ledger, unless_visible};
+ghost use Rattle.filter.specs.Classes.{class_of, hidden, filtered, filtered_ledger, filter_graph, FilterMade, filter_ledger, FilterFixed, filter_fixed, unless_visible, AddedBelow, RemovedBelow};
 
 use bits::bit_of;
 use links::walk::{linked_loads, linked_loads_from};
@@ -121,6 +121,10 @@ impl<B: Book> Links for ClassFilter<B> {
 impl<B: Book> Book for ClassFilter<B> {
     ghost ledger = { filter_ledger B.Links.graph B.Book.ledger };
 
+    ghost Fixed = { FilterFixed B.Book.Fixed };
+
+    ghost fixed = { filter_fixed B.Book.fixed };
+
     fn limit(&self) -> usize {
         self.below.limit()
     }
@@ -138,12 +142,22 @@ impl<B: Book> Book for ClassFilter<B> {
         self.below.room()
     }
 
-    fn add(&mut self, a: usize, b: usize) -> Result<(), Refused> {
+    fn add(&mut self, a: usize, b: usize) -> Result<(), Refused>
+        ensures adds { Adds (filter_graph B.Links.graph) (FilterMade B.Links.made)
+            (filter_ledger B.Links.graph B.Book.ledger) self.old a b result self.new }
+        ensures below { AddedBelow B.Links.graph B.Links.made B.Book.ledger self.old.below a b result self.new.below }
+        ensures stays { filter_fixed B.Book.fixed self.new ≡ filter_fixed B.Book.fixed self.old }
+    {
         self.check_visible(a, b, Refusal::Barred)?;
         self.below.add(a, b)
     }
 
-    fn remove(&mut self, a: usize, b: usize) -> Result<(), Refused> {
+    fn remove(&mut self, a: usize, b: usize) -> Result<(), Refused>
+        ensures removes { Removes (filter_graph B.Links.graph) (FilterMade B.Links.made)
+            (filter_ledger B.Links.graph B.Book.ledger) self.old a b result self.new }
+        ensures below { RemovedBelow B.Links.graph B.Links.made B.Book.ledger self.old.below a b result self.new.below }
+        ensures stays { filter_fixed B.Book.fixed self.new ≡ filter_fixed B.Book.fixed self.old }
+    {
         self.check_visible(a, b, Refusal::NotLinked)?;
         self.below.remove(a, b)
     }

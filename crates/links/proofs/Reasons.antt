@@ -1,8 +1,8 @@
 -- What holds where there is no reason to refuse.
-use Rattle.std.proofs.Common.{◌≡◌, ℕ, ◌<◌, Bool, true, false, cond, ◌||◌, eqb, leb, IsErrAnd, Some, None, Ok, Err, Option, Result, sym, refl, ap, ◌∙◌, inl, inr, arith}
-use Rattle.std.proofs.lemmas.Bool.{cases_Bool, cond-false, or_from, or_parts, lt-leb, leb-false, ne_eqb, eqb-false}
+use Rattle.std.proofs.Common.{◌≡◌, ℕ, ◌<◌, Bool, true, false, cond, ◌||◌, eqb, leb, IsErrAnd, Some, None, Ok, Err, Option, Result, sym, refl, ap, ◌∙◌, arith}
+use Rattle.std.proofs.lemmas.Bool.{cond-false, or_from, or_parts, lt-leb, leb-false, ne_eqb, eqb-false}
 use Rattle.graph.specs.Graph.{Graph}
-use Rattle.links.specs.Books.{Ledger, unless_two_of, adding, removing}
+use Rattle.links.specs.Books.{Ledger, unless_two_of, unless_open, unless_spares, unless_room, adding, removing}
 use Rattle.links.specs.Refusals.{Reason, told, Answers, Kept}
 use Rattle.links.specs.declared.refusal.Layer.{Layer}
 use Rattle.links.specs.declared.refusal.Layer.TheVariants.{Book}
@@ -33,11 +33,16 @@ two_none layer size a b o e =
     (record { a_below = leb-false size a past-a; b_below = leb-false size b past-b; apart = eqb-false a b same }, rest')
 
 -- the reason is the same, whatever else would be tested
-pub two_refused : (layer : Layer) (size a b : ℕ) (o : Option Reason) (r : Reason) → unless_two_of layer size a b None ≡ Some r → unless_two_of layer size a b o ≡ Some r
-two_refused layer size a b o r = elim (cases_Bool (leb size a || leb size b)) [
-  | inl e ↦ rw e (λ h. h)
-  | inr e ↦ elim (cases_Bool (eqb a b)) [ inl f ↦ rw (e, f) (λ h. h) | inr f ↦ rw (e, f) (λ h. cc) ]
-]
+cond_refused : (t : Bool) (x : Option Reason) (p q : Option Reason) (r : Reason) → (p ≡ Some r → q ≡ Some r) → cond t x p ≡ Some r → cond t x q ≡ Some r
+cond_refused true x p q r more h = h
+cond_refused false x p q r more h = more h
+
+pub not_refused : (r : Reason) (P : Type 0) → None ≡ Some r → P
+not_refused r P e = absurd (some_none r (sym e))
+
+pub two_refused : (layer : Layer) (size a b : ℕ) (p q : Option Reason) (r : Reason) → (p ≡ Some r → q ≡ Some r) → unless_two_of layer size a b p ≡ Some r → unless_two_of layer size a b q ≡ Some r
+two_refused layer size a b p q r more =
+    cond_refused (leb size a || leb size b) _ _ _ r (cond_refused (eqb a b) _ _ _ r more)
 
 pub two_granted : (layer : Layer) (size a b : ℕ) (o : Option Reason) → TwoLoads size a b → unless_two_of layer size a b o ≡ o
 two_granted layer size a b o two =
@@ -54,6 +59,34 @@ pub refused_by : {A : Type 0} (o : Option Reason) (e : Refused) (r : Result A Re
 refused_by o e (Ok x) Granted by why = absurd by
 refused_by o e (Err x) Granted by why = why ∙ ap (λ (f : Refused). Some (told f)) (sym by)
 
+-- ---- a pair that is open to a new link, and what is left for it
+
+pub record Open (g : Graph) (barred : Bool) (a b : ℕ) : Type 0 where
+  pub two : TwoLoads g.size a b
+  pub unbarred : barred ≡ false
+  pub off : g.linked a b ≡ false
+
+pub open_none : (g : Graph) (barred : Bool) (a b : ℕ) (o : Option Reason) → unless_open g barred a b o ≡ None → Open g barred a b × (o ≡ None)
+open_none g barred a b o e =
+    let (two, e₁) = two_none Book g.size a b _ e in
+    let (unbarred, e₂) = cond_none barred _ _ e₁ in
+    let (off, e₃) = cond_none (g.linked a b) _ _ e₂ in
+    (record { two = two; unbarred = unbarred; off = off }, e₃)
+
+pub open_granted : (g : Graph) (barred : Bool) (a b : ℕ) (o : Option Reason) → Open g barred a b → unless_open g barred a b o ≡ o
+open_granted g barred a b o is-open =
+    two_granted Book g.size a b _ is-open.two ∙ cond-false barred _ _ is-open.unbarred ∙ cond-false (g.linked a b) _ _ is-open.off
+
+pub open_refused : (g : Graph) (barred : Bool) (a b : ℕ) (o : Option Reason) (r : Reason) → unless_open g barred a b None ≡ Some r → unless_open g barred a b o ≡ Some r
+open_refused g barred a b o r =
+    two_refused Book g.size a b _ _ r (cond_refused barred _ _ _ r (cond_refused (g.linked a b) _ _ _ r (not_refused r (o ≡ Some r))))
+
+-- of an open pair only what is left for its link is asked
+pub adding_left : (g : Graph) (l : Ledger) (a b x y z : ℕ) → unless_open g (l.barred a b) a b None ≡ None → x ≡ l.spare a → y ≡ l.spare b → z ≡ l.room → adding g l a b ≡ unless_spares x y (unless_room z None)
+adding_left g l a b x y z none ex ey ez =
+    open_granted g (l.barred a b) a b _ (open_none g (l.barred a b) a b None none).0
+    ∙ (λ i. unless_spares (sym ex i) (sym ey i) (unless_room (sym ez i) None))
+
 pub record Addable (g : Graph) (l : Ledger) (a b : ℕ) : Type 0 where
   pub two : TwoLoads g.size a b
   pub off : g.linked a b ≡ false
@@ -63,13 +96,11 @@ pub record Addable (g : Graph) (l : Ledger) (a b : ℕ) : Type 0 where
 
 pub adding_none : (g : Graph) (l : Ledger) (a b : ℕ) → adding g l a b ≡ None → Addable g l a b
 adding_none g l a b e =
-    let (two, e₁) = two_none Book g.size a b _ e in
-    let (_, e₂) = cond_none (l.barred a b) _ _ e₁ in
-    let (off, e₃) = cond_none (g.linked a b) _ _ e₂ in
-    let (full, e₄) = cond_none (eqb (l.spare a) 0 || eqb (l.spare b) 0) _ _ e₃ in
-    let (room, _) = cond_none (eqb l.room 0) _ _ e₄ in
+    let (is-open, e₁) = open_none g (l.barred a b) a b _ e in
+    let (full, e₂) = cond_none (eqb (l.spare a) 0 || eqb (l.spare b) 0) _ _ e₁ in
+    let (room, _) = cond_none (eqb l.room 0) _ _ e₂ in
     let (full-a, full-b) = or_parts (eqb (l.spare a) 0) (eqb (l.spare b) 0) full in
-    record { two = two; off = off; spare_a = eqb-false (l.spare a) 0 full-a; spare_b = eqb-false (l.spare b) 0 full-b; room = eqb-false l.room 0 room }
+    record { two = is-open.two; off = is-open.off; spare_a = eqb-false (l.spare a) 0 full-a; spare_b = eqb-false (l.spare b) 0 full-b; room = eqb-false l.room 0 room }
 
 pub record Removable (g : Graph) (a b : ℕ) : Type 0 where
   pub two : TwoLoads g.size a b

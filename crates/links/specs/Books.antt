@@ -3,7 +3,6 @@ use Rattle.std.specs.Prelude.{◌≡◌, ℕ, ◌+◌, ◌-◌, ◌<◌, ◌≤�
 use Rattle.graph.specs.Graph.{Graph, link_count, added, removed}
 use Rattle.links.specs.declared.refusal.Layer.{Layer}
 use Rattle.links.specs.declared.refusal.Layer.TheVariants.{Book}
-use Rattle.links.specs.declared.Allowance.{Allowance}
 use Rattle.links.specs.declared.refusal.Refused.{Refused}
 use Rattle.links.specs.Refusals.{Reason, Answers, Kept}
 
@@ -53,29 +52,27 @@ unless_limit = unless_within 32640 (by_book 2)
 abbrev pub unless_two_of : Layer → ℕ → ℕ → ℕ → Option Reason → Option Reason
 unless_two_of layer size a b otherwise = cond (nat_le size a || nat_le size b) (by layer 4) (cond (a == b) (by layer 5) otherwise)
 
--- the first reason to refuse to add a link of a and b
+-- the pair is not open. 4, 5: not two loads; 8: barred; 6: linked already
+abbrev pub unless_open : Graph → Bool → ℕ → ℕ → Option Reason → Option Reason
+unless_open g barred a b otherwise =
+    unless_two_of Book g.size a b (cond barred (by_book 8) (cond (g.linked a b) (by_book 6) otherwise))
+
+-- 9: either load has no spare left
+abbrev pub unless_spares : ℕ → ℕ → Option Reason → Option Reason
+unless_spares spare_a spare_b otherwise = cond (spare_a == 0 || spare_b == 0) (by_book 9) otherwise
+
+-- 10: the book has no room left
+abbrev pub unless_room : ℕ → Option Reason → Option Reason
+unless_room room otherwise = cond (room == 0) (by_book 10) otherwise
+
+-- the first reason to refuse to add a link of a and b: the pair has to be open, and something left for its link
 abbrev pub adding : Graph → Ledger → ℕ → ℕ → Option Reason
 adding g l a b =
-    cond (nat_le g.size a || nat_le g.size b) (by_book 4)
-    (cond (a == b) (by_book 5)
-    (cond (l.barred a b) (by_book 8)
-    (cond (g.linked a b) (by_book 6)
-    (cond (l.spare a == 0 || l.spare b == 0) (by_book 9)
-    (cond (l.room == 0) (by_book 10) None)))))
+    unless_open g (l.barred a b) a b (unless_spares (l.spare a) (l.spare b) (unless_room l.room None))
 
 -- the first reason to refuse to remove the link of a and b
 abbrev pub removing : Graph → ℕ → ℕ → Option Reason
-removing g a b =
-    cond (nat_le g.size a || nat_le g.size b) (by_book 4)
-    (cond (a == b) (by_book 5)
-    (cond (g.linked a b) None (by_book 7)))
-
--- what a book allows for a link of a and b, as its ledger has it
-pub record Allows (l : Ledger) (a b : ℕ) (o : Allowance) : Type 0 where
-  pub barred : o.barred ≡ l.barred a b
-  pub spare_a : o.spare_a ≡ l.spare a
-  pub spare_b : o.spare_b ≡ l.spare b
-  pub room : o.room ≡ l.room
+removing g a b = unless_two_of Book g.size a b (cond (g.linked a b) None (by_book 7))
 
 -- the value t stands for this graph and this ledger, and came from its making
 pub record Stands {S : Type 0} (graph : S → Graph) (made : S → Type 0) (ledger : S → Ledger) (t : S) (g : Graph) (l : Ledger) : Type 0 where

@@ -4,7 +4,7 @@
 
 ghost use Rattle.std.specs.Prelude.{◌≡◌, None};
 ghost use Rattle.graph.specs.Graph.{Graph, Simple, degree, link_count, Next};
-ghost use Rattle.links.specs.Books.{Ledger, Bounded, Allows, Adds, Removes, unless_within, unless_size, unless_limit, unless_two_of, adding, removing};
+ghost use Rattle.links.specs.Books.{Ledger, Bounded, Adds, Removes, unless_within, unless_size, unless_limit, unless_two_of, unless_open, unless_spares, unless_room, removing};
 ghost use Rattle.links.specs.Refusals.{Answers, told_by};
 
 mod output;
@@ -16,10 +16,9 @@ pub use output::write_start;
 pub use refusal::{Layer, Refusal, Refused};
 pub use tally::Tally;
 
-// What a book allows for one link: whether it is barred, the spares of both its loads, and the room.
+/// What a book has left for one link: the spares of both its loads, and its room.
 #[derive(Clone, Copy)]
 pub struct Allowance {
-    pub barred: bool,
     pub spare_a: usize,
     pub spare_b: usize,
     pub room: usize,
@@ -129,29 +128,43 @@ pub fn check_two(size: usize, a: usize, b: usize, layer: Layer) -> Result<(), Re
     Ok(())
 }
 
-// Whether a book may add the link of a and b to these links, with what it allows for it.
-pub fn check_add<L: Links>(
-    links: &L,
-    a: usize,
-    b: usize,
-    allowance: Allowance,
-) -> Result<(), Refused>
-    ensures { L.Links.made links.now → (l : Ledger) → Allows l a b allowance → Answers (adding (L.Links.graph links.now) l a b) result (λ _. Unit {0}) }
+/// Whether a and b are open to a new link: refuses with 4 or 5 unless they are two of the loads, with 8 where the pair is
+/// barred, and with 6 where they are linked already. What is left for the link is asked after it.
+pub fn check_open<L: Links>(links: &L, a: usize, b: usize, barred: bool) -> Result<(), Refused>
+    ensures { L.Links.made links.now →
+        Answers (unless_open (L.Links.graph links.now) barred a b None) result (λ _. Unit {0}) }
 {
     check_two(links.size(), a, b, Layer::Book)?;
-    if allowance.barred {
+    if barred {
         return Err(Refusal::Barred.by(Layer::Book));
     }
     if links.linked(a, b) {
         return Err(Refusal::AlreadyLinked.by(Layer::Book));
     }
+    Ok(())
+}
+
+/// Whether something is left for a new link: refuses with 9 where either load has no spare, and then with 10 where there is
+/// no room.
+pub fn check_left(allowance: Allowance) -> Result<(), Refused>
+    ensures { Answers (unless_spares allowance.spare_a allowance.spare_b (unless_room allowance.room None))
+        result (λ _. Unit {0}) }
+{
     if allowance.spare_a == 0 || allowance.spare_b == 0 {
         return Err(Refusal::LoadFull.by(Layer::Book));
     }
-    if allowance.room == 0 {
-        return Err(Refusal::BookFull.by(Layer::Book));
+    check_room(allowance.room)
+}
+
+/// Whether a book with this room can take a new link: refuses with 10 where it is 0.
+pub fn check_room(room: usize) -> Result<(), Refused>
+    ensures { Answers (unless_room room None) result (λ _. Unit {0}) }
+{
+    if room == 0 {
+        Err(Refusal::BookFull.by(Layer::Book))
+    } else {
+        Ok(())
     }
-    Ok(())
 }
 
 // Whether the link of a and b may be removed from these links.

@@ -26,6 +26,7 @@ impl Tally {
     pub fn add_one(&mut self)
         ensures counted { self.old.count < self.old.limit → self.new ≡ record { limit = self.old.limit; count = self.old.count + 1 } }
         ensures full { self.old.limit ≤ self.old.count → self.new ≡ self.old }
+        ensures limit { self.new.limit ≡ self.old.limit }
     {
         if self.count < self.limit {
             self.count += 1;

@@ -74,6 +74,13 @@ module _ (d : ℕ) (memory : List ℕ) (a : ℕ) (row : List ℕ) (long : length
       ∙ get_or-drop (a * (d + 1) + (d + 1)) memory (i - a * (d + 1) - (d + 1)) z
       ∙ ap (λ (k : ℕ). get_or memory k z) same
 
+  pub drop_with_row : drop (a * (d + 1) + (d + 1)) (with_row d memory a row) ≡ drop (a * (d + 1) + (d + 1)) memory
+  unfolding with_row
+  drop_with_row =
+      sym (drop-drop (d + 1) (a * (d + 1)) (take (a * (d + 1)) memory ++ (row ++ drop (a * (d + 1) + (d + 1)) memory)))
+      ∙ ap (drop (d + 1)) (drop_at (take (a * (d + 1)) memory) (row ++ drop (a * (d + 1) + (d + 1)) memory) (a * (d + 1)) length_start)
+      ∙ drop_at row (drop (a * (d + 1) + (d + 1)) memory) (d + 1) long
+
   pub row_of_with_same : row_of d (with_row d memory a row) a ≡ row
   unfolding row_of with_row
   row_of_with_same =
@@ -104,12 +111,15 @@ row_changed change d a b k memory row ek within same changes keeps =
     record {
       row = λ _ able. written ∙ ap (with_row d memory a) (subst (λ (xs : List ℕ). Able change xs b → row ≡ changed change xs b) part changes able);
       kept = λ unable. written ∙ ap (with_row d memory a) (subst (λ (xs : List ℕ). (Able change xs b → ⊥) → row ≡ xs) part keeps (unable within)) ∙ with_own_row d memory a;
-      beyond = λ i l.
-          ap (λ (xs : List ℕ). get_or xs i 0) written ∙ beyond_row d memory a row (same ∙ ap length part ∙ length_row_of d memory a within) within i 0 l;
+      same_length = ap length written ∙ length_with_row d memory a row long within;
+      beyond = ap (drop (a * (d + 1) + (d + 1))) written ∙ drop_with_row d memory a row long within;
     }
   where
     part : take k (drop (a * (d + 1)) memory) ≡ row_of d memory a
     part = row_of_part d memory a (a * (d + 1)) k refl ek
+
+    long : length row ≡ d + 1
+    long = same ∙ ap length part ∙ length_row_of d memory a within
 
     written : put_mid (a * (d + 1)) k memory row ≡ with_row d memory a row
     written = with_row_part d memory a (a * (d + 1)) k row refl ek
@@ -135,12 +145,18 @@ two_rows d memory a b r s ne lr ls wa wb =
       beyond = λ i la lb. beyond_row d (with_row d memory a r) b s ls wm i 0 lb ∙ beyond_row d memory a r lr wa i 0 la;
     }
 
+drop_later : (m k : ℕ) (xs ys : List ℕ) → m ≤ k → drop m xs ≡ drop m ys → drop k xs ≡ drop k ys
+drop_later m k xs ys l same =
+    let past : m + (k - m) ≡ k = omega arith in
+    ap (λ (i : ℕ). drop i xs) (sym past) ∙ sym (drop-drop (k - m) m xs) ∙ ap (drop (k - m)) same ∙ drop-drop (k - m) m ys ∙ ap (λ (i : ℕ). drop i ys) past
+
 -- one row changed after the other
 pub both_rows_changed : (change : Change) (n d a b : ℕ) (memory mid after : List ℕ) → a < n → b < n → RowChanged (Able change) (changed change) d a b memory mid → RowChanged (Able change) (changed change) d b a mid after → BothChanged change n d a b memory after
 both_rows_changed change n d a b memory mid after la lb first second =
     record {
       rows = rows;
-      beyond = λ k l. second.beyond k (omega (arith, row_end n d b lb)) ∙ first.beyond k (omega (arith, row_end n d a la));
+      same_length = second.same_length ∙ first.same_length;
+      beyond = drop_later _ (n * (d + 1)) after mid (row_end n d b lb) second.beyond ∙ drop_later _ (n * (d + 1)) mid memory (row_end n d a la) first.beyond;
     }
   where
     rows : BothAble change n d a b memory → after ≡ both_changed (changed change) d memory a b

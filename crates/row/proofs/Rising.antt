@@ -1,7 +1,7 @@
 -- Lists of numbers that rise strictly: what stands in them, and how many.
-use Rattle.std.proofs.Common.{◌≡◌, ℕ, zero, suc, ◌+◌, ◌-◌, ◌<◌, ◌≤◌, Bool, true, false, not, ◌&&◌, ◌||◌, eqb, ltb, List, [], ◌∷◌, length, get_or, sym, refl, ap, ◌∙◌, ⊎_elim, arith}
+use Rattle.std.proofs.Common.{◌≡◌, ℕ, zero, suc, ◌+◌, ◌-◌, ◌<◌, ◌≤◌, Bool, true, false, cond, not, ◌&&◌, ◌||◌, eqb, ltb, List, [], ◌∷◌, length, get_or, sym, refl, ap, ◌∙◌, ap₂, ⊎_elim, arith}
 use mathlib.Core.Bool.{or-false, or_comm, or_assoc, and-true}
-use Rattle.std.specs.List.{insert, remove}
+use Rattle.std.specs.List.{insert, remove, filter, range_with_len}
 use Rattle.std.proofs.lemmas.Bool.{cases_lt, cases_eq, lt-ltb, le-ltb, ltb-true, eq-eqb, ne_eqb, eqb-true, eqb-false, or_cases, or_parts, or_left, or_right, or_from, both_ways}
 use Rattle.rise.specs.Rise.{Rises}
 use Rattle.graph.specs.Graph.{count, First}
@@ -169,3 +169,40 @@ has_removed m (x ∷ xs) b y above on =
         (λ e. let ne : eqb j k ≡ false = ne_eqb j k (λ q. omega (arith, l, e)) in rw (eq-eqb i k e, ne))
         (λ ne. rw (ne_eqb i k ne))
         (cases_eq i k)
+
+-- ---- a rising list is the numbers that stand in it, in order
+
+above_next : (m : ℕ) (xs : List ℕ) → Above m xs → has xs m ≡ false → Above (m + 1) xs
+above_next m [] above off = tt
+above_next m (x ∷ xs) above off =
+    (omega (arith, above.0, eqb-false x m (or_parts (eqb x m) (has xs m) off).0), above.1)
+
+-- the list xs is what is left of the k numbers from m on by the test
+abbrev Left : (ℕ → Bool) → ℕ → ℕ → List ℕ → Type 0
+Left test m k xs =
+    Above m xs → ((b : ℕ) → m ≤ b → has xs b ≡ test b) → ((b : ℕ) → has xs b ≡ true → b < m + k) → xs ≡ filter test (range_with_len m k)
+
+left_more : (test : ℕ → Bool) (m k : ℕ) → ((xs : List ℕ) → Left test (m + 1) k xs) → (t : Bool) → test m ≡ t → (xs : List ℕ) → Above m xs → ((b : ℕ) → m ≤ b → has xs b ≡ test b) → ((b : ℕ) → has xs b ≡ true → b < m + suc k)
+    → xs ≡ cond t (m ∷ filter test (range_with_len (m + 1) k)) (filter test (range_with_len (m + 1) k))
+left_more test m k later false e xs above is below =
+    later xs (above_next m xs above (is m (omega arith) ∙ e)) (λ b l. is b (omega arith)) (λ b on. omega (arith, below b on))
+left_more test m k later true e [] above is below = absurd (both_ways false refl (is m (omega arith) ∙ e))
+left_more test m k later true e (x ∷ xs) above is below =
+    ap₂ (λ (y : ℕ) (ys : List ℕ). y ∷ ys) same
+    (later xs (above_weaker (suc x) (m + 1) xs (omega (arith, same)) above.1)
+    (λ b l. ap (λ (t : Bool). t || has xs b) (sym (ne_eqb x b (λ q. omega (arith, same, q)))) ∙ is b (omega arith))
+    (λ b on. omega (arith, below b (or_right (eqb x b) (has xs b) on))))
+  where
+    same : x ≡ m
+    same =
+        ⊎_elim
+        (λ l. absurd (both_ways _ (has_below x (x ∷ xs) m (omega arith, above.1) l) (is m (omega arith) ∙ e)))
+        (λ l. omega (arith, above.0))
+        (cases_lt m x)
+
+pub rising_filtered : (test : ℕ → Bool) (m k : ℕ) (xs : List ℕ) → Left test m k xs
+rising_filtered test m zero [] above is below = refl
+rising_filtered test m zero (x ∷ xs) above is below =
+    absurd (omega (arith, above.0, below x (or_left (eqb x x) (has xs x) (eq-eqb x x refl))))
+rising_filtered test m (suc k) xs above is below =
+    left_more test m k (rising_filtered test (m + 1) k) (test m) refl xs above is below

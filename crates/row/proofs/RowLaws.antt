@@ -1,8 +1,8 @@
 -- What holds of one row, and of the row with a load more or less.
-use Rattle.std.proofs.Common.{◌≡◌, ℕ, zero, suc, ◌+◌, ◌-◌, ◌<◌, ◌≤◌, Bool, true, false, not, ◌&&◌, ◌||◌, eqb, List, [], ◌∷◌, length, get_or, drop, sym, refl, ap, ◌∙◌, subst, ⊎_elim, arith}
+use Rattle.std.proofs.Common.{◌≡◌, ℕ, zero, suc, ◌+◌, ◌-◌, ◌<◌, ◌≤◌, Bool, true, false, not, ◌&&◌, ◌||◌, eqb, List, [], ◌∷◌, length, ◌++◌, get_or, take, drop, replicate, sym, refl, ap, ◌∙◌, subst, ap₂, ⊎_elim, arith}
 use Rattle.std.specs.List.{insert, remove}
 use Rattle.std.proofs.lemmas.List.Edits.{length-insert, length-remove}
-use Rattle.std.proofs.lemmas.List.{length-take-le, length-drop, length-append, take_at, get_or-append_right, get_or-drop}
+use Rattle.std.proofs.lemmas.List.{length-take-le, length-drop, length-append, take_at, take-append-drop, get_or-append_right, get_or-drop}
 use Rattle.std.proofs.lemmas.Bool.{cases_lt, lt-ltb, le-ltb, ne_eqb, or_cases, or_from, and_parts, and_left, eqb-true, both_ways}
 use Rattle.row.specs.Row.{entries, has, place, Insertable, row_with, Removable, row_without, Able, changed, RowMade}
 use Rattle.row.specs.declared.Change.{Change}
@@ -26,6 +26,23 @@ place_lt m xs b above on =
 
 pub length_entries : (row : List ℕ) → get_or row 0 0 < length row → length (entries row) ≡ get_or row 0 0
 length_entries row l = length-take-le (get_or row 0 0) (drop 1 row) (simp length-drop (omega arith))
+
+all_zero : (xs : List ℕ) → ((j : ℕ) → j < length xs → get_or xs j 0 ≡ 0) → xs ≡ replicate (length xs) 0
+all_zero [] zeros = refl
+all_zero (x ∷ xs) zeros =
+    ap₂ (λ (y : ℕ) (ys : List ℕ). y ∷ ys) (zeros 0 (omega arith)) (all_zero xs (λ j l. zeros (suc j) (omega arith)))
+
+-- a row is its count, its loads and zeros
+pub row_parts : (n d a : ℕ) (row : List ℕ) → RowMade n d a row → length row ≡ d + 1 → row ≡ get_or row 0 0 ∷ (entries row ++ replicate (d - get_or row 0 0) 0)
+row_parts n d a [] made long = absurd (omega arith)
+row_parts n d a (c ∷ t) made long =
+    ap (λ (xs : List ℕ). c ∷ xs) (sym (take-append-drop c t) ∙ ap (λ (xs : List ℕ). take c t ++ xs) (all_zero (drop c t) zeros ∙ ap (λ (k : ℕ). replicate k 0) size))
+  where
+    size : length (drop c t) ≡ d - c
+    size = omega (arith, length-drop c t)
+
+    zeros : (j : ℕ) → j < length (drop c t) → get_or (drop c t) j 0 ≡ 0
+    zeros j l = get_or-drop c t j 0 ∙ made.zeros (suc (c + j)) (omega arith) (omega (arith, size))
 
 -- ---- its length with a load more or less
 

@@ -22,16 +22,19 @@ fn loads(row: &[u16]) -> &[u16]
     }
 }
 
-// The loads of row a. There is a row for each load below `size`.
+/// The loads of row a, of `size` rows; none where there is no such row. Of a row that the memory cuts short, the loads that are
+/// there.
 #[tactic(auto, unfolding(crate::specs::Memory::row_of))]
 pub fn row_loads(rows: &[u16], size: u16, row_limit: u8, a: usize) -> &[u16]
-    ensures { size * (row_limit + 1) ≤ length rows.now → result.now ≡ loads_of_row size row_limit rows.now a }
+    ensures { result.now ≡ loads_of_row size row_limit rows.now a }
 {
     if a >= usize::from(size) {
         return &[];
     }
     let width = usize::from(row_limit) + 1;
-    loads(rows.get(a * width..(a + 1) * width).unwrap_or(&[]))
+    let start = rows.len().min(a * width);
+    let end = rows.len().min(start + width);
+    loads(&rows[start..end])
 }
 
 // The index of the first load that is not below b.

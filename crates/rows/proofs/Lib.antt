@@ -1,3 +1,4 @@
 pub mod BookLaws
 pub mod BookChange
 pub mod BookAnswers
+pub mod Memory

@@ -1,5 +1,6 @@
 -- A link book in rows of d + 1 numbers, one row for each load.
-use Rattle.std.specs.Prelude.{◌≡◌, ℕ, ◌+◌, ◌-◌, ◌*◌, ◌<◌, ◌≤◌, true, false, cond, ◌&&◌, List, length, is_ok, Some, None, Option, Result, nat_lt, slice_index}
+use Rattle.std.specs.Prelude.{◌≡◌, ℕ, ◌+◌, ◌-◌, ◌*◌, ◌<◌, ◌≤◌, true, false, cond, ◌&&◌, List, length, drop, is_ok, Some, None, Option, Result, nat_lt, slice_index}
+use Rattle.std.specs.Borrow.{GName}
 use Rattle.graph.specs.Graph.{Graph, link_count, edgeless}
 use Rattle.links.specs.Books.{Ledger, by_book, unless_within, unless_size, unless_limit}
 use Rattle.links.specs.Memory.{Cleared}
@@ -31,12 +32,9 @@ pub record RowsMade (n d limit count : ℕ) (memory : List ℕ) : Type 0 where
   pub counted : count ≡ link_count (graph_of n d memory)
   pub within : count ≤ limit
 
--- how many numbers of the memory the book uses, and that they are there
+-- how many numbers of the memory the book uses
 abbrev pub book_need : SortedRows → ℕ
 book_need s = s.size * (s.row_limit + 1)
-
-abbrev pub Whole : SortedRows → Type 0
-Whole s = book_need s ≤ length s.rows.now
 
 abbrev pub book_row : SortedRows → ℕ → List ℕ
 book_row s a = loads_of_row s.size s.row_limit s.rows.now a
@@ -49,6 +47,26 @@ book_ledger s = ledger_of s.size s.row_limit s.tally.limit s.tally.count s.rows.
 
 abbrev pub BookMade : SortedRows → Type 0
 BookMade s = RowsMade s.size s.row_limit s.tally.limit s.tally.count s.rows.now
+
+-- what no call changes: whose the numbers are, how many, and those past the rows; size, row limit and limit
+pub record RowsFixed : Type 0 where
+  pub lender : GName
+  pub length : ℕ
+  pub beyond : List ℕ
+  pub size : ℕ
+  pub row_limit : ℕ
+  pub limit : ℕ
+
+abbrev pub rows_fixed : SortedRows → RowsFixed
+rows_fixed s =
+    record {
+      lender = s.rows.ghost_name;
+      length = length s.rows.now;
+      beyond = drop (book_need s) s.rows.now;
+      size = s.size;
+      row_limit = s.row_limit;
+      limit = s.tally.limit;
+    }
 
 -- the first reason not to make a book of n loads with row limit d and this link limit in so much memory
 abbrev pub checking : ℕ → ℕ → ℕ → ℕ → Option Reason
@@ -73,9 +91,7 @@ abbrev pub Making : Option Reason → ℕ → ℕ → ℕ → List ℕ → Sorte
 Making None n d limit before s = Fresh n d limit s × Cleared (n * (d + 1)) before s.rows.now
 Making (Some reason) n d limit before s = Fresh 0 0 0 s × (s.rows.now ≡ before)
 
--- what a book that was s, and answered r to a call that adds or removes the link of a and b, keeps, and what its memory holds
-pub record Written (change : List ℕ → ℕ → List ℕ) (s : SortedRows) (a b : ℕ) (r : Result Unit Refused) (t : SortedRows) : Type 0 where
-  pub size : t.size ≡ s.size
-  pub row_limit : t.row_limit ≡ s.row_limit
-  pub memory : BookMade s → is_ok r ≡ true → t.rows.now ≡ both_changed change s.row_limit s.rows.now a b
-  pub beyond : (k : ℕ) → book_need s ≤ k → slice_index t.rows.now k ≡ slice_index s.rows.now k
+-- what the memory of a book that was s holds after it answered r to a call that adds or removes the link of a and b
+abbrev pub Written : (List ℕ → ℕ → List ℕ) → SortedRows → ℕ → ℕ → Result Unit Refused → SortedRows → Type 0
+Written change s a b r t =
+    BookMade s → is_ok r ≡ true → t.rows.now ≡ both_changed change s.row_limit s.rows.now a b

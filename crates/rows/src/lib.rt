@@ -7,11 +7,13 @@ ghost use Rattle.links.specs.Books.{Adds, Removes};
 ghost use Rattle.links.specs.Refusals.{Answers};
 ghost use Rattle.row.specs.Row.{row_with, row_without};
 ghost use Rattle.row.specs.Memory.{BothChanged};
-ghost use Rattle.rows.specs.Rows.{Whole, book_row, book_graph, book_ledger, BookMade, checking, Making, Written};
+ghost use Rattle.rows.specs.Rows.{book_row, book_graph, book_ledger, BookMade, RowsFixed, rows_fixed, checking, Making, Written};
+
+pub mod theorems;
 
 use links::{
-    Allowance, Book, Layer, Links, Refusal, Refused, Tally, check_add, check_limit, check_remove,
-    check_size, check_within,
+    Allowance, Book, Layer, Links, Refusal, Refused, Tally, check_left, check_limit, check_open,
+    check_remove, check_size, check_within,
 };
 use rise::first_unordered;
 use row::{Change, change_row, position, row_loads};
@@ -70,14 +72,14 @@ impl<'a> SortedRows<'a> {
 impl SortedRows<'_> {
     // The loads in row a.
     fn row(&self, a: usize) -> &[u16]
-        ensures { Whole self.now → result.now ≡ book_row self.now a }
+        ensures { result.now ≡ book_row self.now a }
     {
         row_loads(self.rows, self.size, self.row_limit, a)
     }
 
     // The index, among the loads of row a, of the first that does not come after the one before it.
     pub fn row_break(&self, a: usize) -> Option<usize>
-        ensures first { Whole self.now → MatchOption result (Rises nat_lt (book_row self.now a)) (λ i. FirstUnordered nat_lt (book_row self.now a) i) }
+        ensures first { MatchOption result (Rises nat_lt (book_row self.now a)) (λ i. FirstUnordered nat_lt (book_row self.now a) i) }
         ensures none { BookMade self.now → result ≡ None }
     {
         first_unordered(self.row(a))
@@ -126,6 +128,10 @@ impl Links for SortedRows<'_> {
 impl Book for SortedRows<'_> {
     ghost ledger = { book_ledger };
 
+    ghost Fixed = { RowsFixed };
+
+    ghost fixed = { rows_fixed };
+
     fn limit(&self) -> usize {
         self.tally.limit
     }
@@ -148,15 +154,14 @@ impl Book for SortedRows<'_> {
     fn add(&mut self, a: usize, b: usize) -> Result<(), Refused>
         ensures book { Adds book_graph BookMade book_ledger self.old a b result self.new }
         ensures written { Written row_with self.old a b result self.new }
-        ensures lender { self.new.rows.ghost_name ≡ self.old.rows.ghost_name }
+        ensures stays { rows_fixed self.new ≡ rows_fixed self.old }
     {
-        let allowance = Allowance {
-            barred: false,
+        check_open(self, a, b, false)?;
+        check_left(Allowance {
             spare_a: self.spare(a),
             spare_b: self.spare(b),
             room: self.room(),
-        };
-        check_add(self, a, b, allowance)?;
+        })?;
         let (size, row_limit) = (self.size, self.row_limit);
         change_both(self.rows, size, row_limit, a, b, Change::Insert);
         self.tally.add_one();
@@ -166,7 +171,7 @@ impl Book for SortedRows<'_> {
     fn remove(&mut self, a: usize, b: usize) -> Result<(), Refused>
         ensures book { Removes book_graph BookMade book_ledger self.old a b result self.new }
         ensures written { Written row_without self.old a b result self.new }
-        ensures lender { self.new.rows.ghost_name ≡ self.old.rows.ghost_name }
+        ensures stays { rows_fixed self.new ≡ rows_fixed self.old }
     {
         check_remove(self, a, b)?;
         let (size, row_limit) = (self.size, self.row_limit);

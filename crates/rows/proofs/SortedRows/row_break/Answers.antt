@@ -10,7 +10,7 @@ returns c =
     subst (λ (before : ℕ → ℕ → Bool). MatchOption c.first_unordered.result (Rises before c.row.result.now) (λ i. FirstUnordered before c.row.result.now i))
     nat_before c.first_unordered.ensures.first in
     record {
-      first = λ long. subst (λ (xs : List ℕ). MatchOption c.first_unordered.result (Rises ltb xs) (λ i. FirstUnordered ltb xs i)) (c.row.ensures long) found;
+      first = subst (λ (xs : List ℕ). MatchOption c.first_unordered.result (Rises ltb xs) (λ i. FirstUnordered ltb xs i)) c.row.ensures found;
       none = λ made. no_break _ _ _ _ _ made c.args.a c.first_unordered.result
-          (subst (λ (xs : List ℕ). MatchOption c.first_unordered.result (Rises ltb xs) (λ i. FirstUnordered ltb xs i)) (c.row.ensures made.long) found);
+          (subst (λ (xs : List ℕ). MatchOption c.first_unordered.result (Rises ltb xs) (λ i. FirstUnordered ltb xs i)) c.row.ensures found);
     }

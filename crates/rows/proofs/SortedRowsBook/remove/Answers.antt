@@ -1,4 +1,4 @@
-use Rattle.std.proofs.Common.{refl}
+use Rattle.std.proofs.Common.{rules}
 use Rattle.links.proofs.Reasons.{removing_none}
 use Rattle.row.specs.declared.Change.TheVariants.{Remove}
 use Rattle.rows.specs.Rows.{BookMade}
@@ -15,6 +15,6 @@ returns c =
         kept = tt;
         answers = λ made. (none made, stands_after Remove _ _ _ _ _ _ _ _ (after made) c.remove_one.ensures c.change_both.ensures);
       };
-      written = record { size = refl; row_limit = refl; memory = λ made _. c.change_both.ensures.rows (after made).able; beyond = c.change_both.ensures.beyond };
-      lender = refl;
+      written = λ made _. c.change_both.ensures.rows (after made).able;
+      stays = search rules;
     }

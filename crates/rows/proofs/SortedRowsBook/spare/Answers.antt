@@ -7,5 +7,5 @@ pub returns : goal.returns
 returns c made =
     let l : c.args.a < c.args.self.now.size = omega arith in
     c.saturating_sub.ensures
-    ∙ ap₂ (λ (d k : ℕ). d - k) c.from-2.ensures (ap length (c.row.ensures made.long) ∙ length_loads _ _ _ _ _ made c.args.a l)
+    ∙ ap₂ (λ (d k : ℕ). d - k) c.from-2.ensures (ap length c.row.ensures ∙ length_loads _ _ _ _ _ made c.args.a l)
     ∙ sym (cond-true _ _ _ (lt-ltb _ _ l))

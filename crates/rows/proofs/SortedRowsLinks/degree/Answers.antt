@@ -3,4 +3,4 @@ use Rattle.rows.proofs.BookLaws.{degree_is}
 use Rattle.rows.proofs.SortedRowsLinks.degree.Goals as goal
 
 pub returns : goal.returns
-returns c made = ap length (c.row.ensures made.long) ∙ sym (degree_is _ _ _ _ _ made c.args.a)
+returns c made = ap length c.row.ensures ∙ sym (degree_is _ _ _ _ _ made c.args.a)

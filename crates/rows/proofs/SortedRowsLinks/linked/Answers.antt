@@ -6,4 +6,4 @@ pub returns : goal.returns
 returns c made =
     let found : c.is_some_and.result ≡ (ltb c.position.result (length c.row-row.result.now) && eqb (get_or c.row-row.result.now c.position.result 0) c.args.b) = search rules in
     found_linked _ _ _ _ _ made c.args.a c.args.b c.position.result c.row-row.result.now
-    (c.row-row.ensures made.long) c.position.ensures.first c.is_some_and.result found
+    c.row-row.ensures c.position.ensures.first c.is_some_and.result found

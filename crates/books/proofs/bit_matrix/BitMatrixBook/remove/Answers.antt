@@ -1,22 +1,29 @@
-use Rattle.std.proofs.Common.{◌≡◌, ◌-◌, ap, ◌∙◌}
+use Rattle.std.proofs.Common.{◌≡◌, ◌-◌, false, ap, ◌∙◌, rules}
 use Rattle.links.proofs.Reasons.{Removable, removing_none}
 use Rattle.books.specs.declared.bit_matrix.BitMatrix.{BitMatrix}
-use Rattle.books.specs.Matrix.{matrix_graph, MatrixMade, rewritten}
-use Rattle.books.proofs.Writes.{shrunk}
+use Rattle.books.specs.Matrix.{matrix_graph, MatrixMade, rewritten, is_link_place, Written}
+use Rattle.books.proofs.Writes.{link_written, shrunk}
 use Rattle.books.proofs.bit_matrix.BitMatrixBook.remove.Goals as goal
 
-pub returns-clause-book : goal.returns-clause-book
-returns-clause-book c =
+pub returns : goal.returns
+returns c =
     record {
-      kept = tt;
-      answers = λ made. (
-        (c.in_ok-check_remove.ensures made).0,
-        shrunk c.args.self.now _ c.args.a c.args.b made (can made) after (c.put_link.ensures.written (can made).two.a_below (can made).two.b_below made.enough),
-      );
+      book = record {
+        kept = tt;
+        answers = λ made. (
+          (c.in_ok-check_remove.ensures made).0,
+          shrunk c.args.self.now _ c.args.a c.args.b made (can made) after (written made),
+        );
+      };
+      words = λ made _. written made;
+      stays = search rules;
     }
   where
     can : MatrixMade c.args.self.now → Removable (matrix_graph c.args.self.now) c.args.a c.args.b
     can made = removing_none (matrix_graph c.args.self.now) c.args.a c.args.b (c.in_ok-check_remove.ensures made).0
+
+    written : (made : MatrixMade c.args.self.now) → Written false (is_link_place c.args.self.now.size c.args.a c.args.b) c.args.self.now.words.now c.put_link.new.self.words.now
+    written made = link_written false c.args.self.now _ c.args.a c.args.b made (can made).two c.put_link.ensures.written
 
     counted : c.remove_one.new.self ≡ record { limit = c.args.self.now.tally.limit; count = c.args.self.now.tally.count - 1 }
     counted = c.remove_one.ensures ∙ ap (λ (m : BitMatrix). record { limit = m.tally.limit; count = m.tally.count - 1 }) c.put_link.ensures.rest

@@ -12,5 +12,5 @@ returns c made =
     let sum : c.sum.result ≡ sum_by (λ (w : ℕ). count 64 (bit w)) c.row.result.now = search rules in
     sum
     ∙ members_counted c.row.result.now
-    ∙ ap (λ (row : List ℕ). count (64 * length row) (member row)) (c.row.ensures.value made.enough)
+    ∙ ap (λ (row : List ℕ). count (64 * length row) (member row)) c.row.ensures.value
     ∙ row_degree c.args.self.now made c.args.a

@@ -9,5 +9,5 @@ unfolding bit
 returns c made =
     let found : c.is_some_and.result ≡ member c.row.result.now c.args.b = search rules in
     found
-    ∙ ap (λ (row : List ℕ). member row c.args.b) (c.row.ensures.value made.enough)
+    ∙ ap (λ (row : List ℕ). member row c.args.b) c.row.ensures.value
     ∙ row_linked c.args.self.now made c.args.a c.args.b
