@@ -90,14 +90,7 @@ impl Tables {
     fn write_partner(&mut self, a: u8, partner: Option<u8>)
         ensures { PartnerWritten a partner self.old self.new }
     {
-        let record = &mut self.records[usize::from(a)];
-        if record.partner.is_some() {
-            self.matched -= 1;
-        }
-        if partner.is_some() {
-            self.matched += 1;
-        }
-        record.partner = partner;
+        self.records[usize::from(a)].partner = partner;
     }
 
     // a has this partner from now on, or none, and each load that is linked to it learns whether it is free.

@@ -1,9 +1,6 @@
 // The tables of a board: the partner and the degree of each load, and which of the loads linked to it are free.
 #![tactic(auto)]
 
-ghost use Rattle.std.specs.Prelude.{◌≡◌, is_some};
-ghost use Rattle.std.specs.List.{count_by};
-
 mod changes;
 mod choices;
 mod load_set;
@@ -29,7 +26,4 @@ pub struct Tables {
     records: [Record; 256],
     // for each load, the free loads that it is linked to
     free: [LoadSet; 256],
-    // how many loads have a partner
-    matched: u16,
-    ghost counted: { matched ≡ count_by (λ r. is_some r.partner) records },
 }

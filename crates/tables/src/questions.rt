@@ -21,7 +21,6 @@ impl Tables {
         Tables {
             records: [BLANK; 256],
             free: [LoadSet { words: [0; 4] }; 256],
-            matched: 0,
         }
     }
 
@@ -47,7 +46,10 @@ impl Tables {
     pub fn matched(&self) -> usize
         ensures { result ≡ matched_of self.now }
     {
-        usize::from(self.matched)
+        self.records
+            .iter()
+            .filter(|record| record.partner.is_some())
+            .count()
     }
 
     // The number of links of a load.
