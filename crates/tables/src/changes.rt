@@ -1,10 +1,11 @@
 // What follows a change of a link or of a partner. A flag `on` or `up` says what holds afterwards: linked or not, free or
 // not. It is a bool, as the bit that is written.
-ghost use Rattle.std.specs.Prelude.{◌≡◌, ℕ, ◌≤◌, true, false, ◌&&◌, ◌⊎◌, ◌==◌, nat_eq};
+ghost use Rattle.std.specs.Prelude.{◌≡◌, ℕ, ◌≤◌, true, false, None, ◌&&◌, ◌⊎◌, ◌==◌, nat_eq};
 ghost use Rattle.graph.specs.Pairs.{is_free};
+ghost use Rattle.rules.specs.Repair.{paired};
 ghost use Rattle.tables.specs.Views.{partners_of};
-ghost use Rattle.tables.specs.Steps.{stepped, Stepped, PartnerWritten};
-ghost use Rattle.tables.specs.Changes.{OfBook, Relinking, PartnerSet, Pairing, Parting};
+ghost use Rattle.tables.specs.Steps.{stepped, Stepped, with_partner, Written};
+ghost use Rattle.tables.specs.Changes.{OfBook, Relinking, Pairing, Parting, Exchanging, Replacing};
 
 use crate::Tables;
 use links::Links;
@@ -61,7 +62,8 @@ impl Tables {
         }
     }
 
-    // To be called when a and b, which were not, are linked. Does nothing with a number past the tables.
+    /// Follows a link of `a` and `b` that the book gained: each of the two has one link more, and a free load in its set
+    /// if the other is free. Does nothing where a number is not below 256. Writes the records and sets of the two loads.
     pub fn link(&mut self, a: usize, b: usize)
         ensures changed { Relinking true a b self.old self.new }
         ensures ignored { (256 ≤ a) ⊎ (256 ≤ b) → self.new ≡ self.old }
@@ -69,7 +71,8 @@ impl Tables {
         self.relink(a, b, true);
     }
 
-    // To be called when a and b, which were, are no longer linked. Does nothing with a number past the tables.
+    /// Follows a link of `a` and `b` that the book lost: each of the two has one link fewer, and the other no longer in
+    /// its set. Does nothing where a number is not below 256. Writes the records and sets of the two loads.
     pub fn unlink(&mut self, a: usize, b: usize)
         ensures changed { Relinking false a b self.old self.new }
         ensures ignored { (256 ≤ a) ⊎ (256 ≤ b) → self.new ≡ self.old }
@@ -86,40 +89,80 @@ impl Tables {
         }
     }
 
-    // a has this partner, or none, and is counted or no longer.
+    // a has this partner from now on, or none. No load learns of it.
     fn write_partner(&mut self, a: u8, partner: Option<u8>)
-        ensures { PartnerWritten a partner self.old self.new }
+        ensures { Written (with_partner a partner (partners_of self.old)) self.old self.new }
     {
         self.records[usize::from(a)].partner = partner;
     }
 
-    // a has this partner from now on, or none, and each load that is linked to it learns whether it is free.
-    fn set_partner<L: Links>(&mut self, links: &L, a: u8, partner: Option<u8>)
-        ensures { OfBook (L.Links.made links.now) (L.Links.graph links.now) (λ g. PartnerSet g a partner self.old self.new) }
+    // a and b are partners from now on. No load learns of it.
+    fn write_pair(&mut self, a: u8, b: u8)
+        ensures { Written (paired a b (partners_of self.old)) self.old self.new }
     {
-        self.write_partner(a, partner);
-        self.tell_linked(links, a, partner.is_none());
+        self.write_partner(b, Some(a));
+        self.write_partner(a, Some(b));
     }
 
-    // a and b, which are free, become partners. Does nothing with a number past the tables.
+    /// Makes partners of `a` and `b`, which are free: the loads linked to either learn that it no longer is. Does nothing
+    /// where a number is not below 256. Looks at the links of `a` and `b`.
     pub fn pair<L: Links>(&mut self, links: &L, a: usize, b: usize)
         ensures changed { OfBook (L.Links.made links.now) (L.Links.graph links.now) (λ g. Pairing g a b self.old self.new) }
         ensures ignored { (256 ≤ a) ⊎ (256 ≤ b) → self.new ≡ self.old }
     {
         if let (Ok(a), Ok(b)) = (u8::try_from(a), u8::try_from(b)) {
-            self.set_partner(links, b, Some(a));
-            self.set_partner(links, a, Some(b));
+            self.write_pair(a, b);
+            self.tell_linked(links, a, false);
+            self.tell_linked(links, b, false);
         }
     }
 
-    // a and b, which are partners, become free. Does nothing with a number past the tables.
+    /// Parts `a` and `b`, which are partners: the loads linked to either learn that it is free. Does nothing where a
+    /// number is not below 256. Looks at the links of `a` and `b`.
     pub fn part<L: Links>(&mut self, links: &L, a: usize, b: usize)
         ensures changed { OfBook (L.Links.made links.now) (L.Links.graph links.now) (λ g. Parting g a b self.old self.new) }
         ensures ignored { (256 ≤ a) ⊎ (256 ≤ b) → self.new ≡ self.old }
     {
         if let (Ok(a), Ok(b)) = (u8::try_from(a), u8::try_from(b)) {
-            self.set_partner(links, b, None);
-            self.set_partner(links, a, None);
+            self.write_partner(b, None);
+            self.write_partner(a, None);
+            self.tell_linked(links, a, true);
+            self.tell_linked(links, b, true);
+        }
+    }
+
+    /// Takes the augmenting path `a`, `x`, `y`, `z`: the partners `x` and `y` are parted, and `a` gets `x` and the free
+    /// load `z` gets `y`. Only the loads linked to `a` or `z` learn of it, since `x` and `y` have partners as before. Does
+    /// nothing where a number is not below 256. Looks at the links of `a` and `z`.
+    pub fn exchange<L: Links>(&mut self, links: &L, a: usize, x: usize, y: usize, z: usize)
+        ensures changed { OfBook (L.Links.made links.now) (L.Links.graph links.now) (λ g. Exchanging g a x y z self.old self.new) }
+        ensures ignored { (256 ≤ a) ⊎ (256 ≤ x) ⊎ (256 ≤ y) ⊎ (256 ≤ z) → self.new ≡ self.old }
+    {
+        if let (Ok(a), Ok(x), Ok(y), Ok(z)) = (
+            u8::try_from(a),
+            u8::try_from(x),
+            u8::try_from(y),
+            u8::try_from(z),
+        ) {
+            self.write_pair(a, x);
+            self.write_pair(y, z);
+            self.tell_linked(links, a, false);
+            self.tell_linked(links, z, false);
+        }
+    }
+
+    /// Puts `a`, which is free, in the place of `y` as the partner of `x`, and leaves `y` free. Only the loads linked to
+    /// `a` or `y` learn of it, since `x` has a partner as before. Does nothing where a number is not below 256. Looks at
+    /// the links of `a` and `y`.
+    pub fn replace<L: Links>(&mut self, links: &L, a: usize, x: usize, y: usize)
+        ensures changed { OfBook (L.Links.made links.now) (L.Links.graph links.now) (λ g. Replacing g a x y self.old self.new) }
+        ensures ignored { (256 ≤ a) ⊎ (256 ≤ x) ⊎ (256 ≤ y) → self.new ≡ self.old }
+    {
+        if let (Ok(a), Ok(x), Ok(y)) = (u8::try_from(a), u8::try_from(x), u8::try_from(y)) {
+            self.write_pair(a, x);
+            self.write_partner(y, None);
+            self.tell_linked(links, a, false);
+            self.tell_linked(links, y, true);
         }
     }
 }

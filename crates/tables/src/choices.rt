@@ -1,5 +1,7 @@
 // How a load finds a free load among those that it is linked to.
-ghost use Rattle.tables.specs.Views.{Agrees};
+ghost use Rattle.std.specs.Prelude.{◌≡◌, false};
+ghost use Rattle.graph.specs.Pairs.{is_free};
+ghost use Rattle.tables.specs.Views.{partners_of, Agrees};
 ghost use Rattle.tables.specs.Changes.{OfBook};
 ghost use Rattle.tables.specs.Choices.{FirstFree, Matched};
 
@@ -21,9 +23,12 @@ impl Tables {
 
     // Matches a, if it is free, with the first in its ranking of the free loads that it is linked to.
     pub fn match_free<L: Links, R: Ranking>(&mut self, links: &L, ranking: &R, a: usize)
-        ensures { OfBook (L.Links.made links.now) (L.Links.graph links.now) (λ g. Agrees g self.old → Matched (R.Ranking.before ranking.now) g a self.old self.new) }
+        ensures matched { OfBook (L.Links.made links.now) (L.Links.graph links.now)
+            (λ g. Agrees g self.old → Matched (R.Ranking.before ranking.now) g a self.old self.new) }
+        ensures kept { is_free (partners_of self.old) a ≡ false → self.new ≡ self.old }
     {
         if self.is_free(a)
+            && self.free_links(a) > 0
             && let Some(b) = self.first_free(ranking, a)
         {
             self.pair(links, a, b);
