@@ -14,7 +14,7 @@ use tables::Tables;
 
 mod best;
 mod changes;
-pub mod paths;
+mod paths;
 
 // What a repair goes by: the links, the ranking, and the most links that a free load may keep.
 #[derive(Drop)]
@@ -51,10 +51,15 @@ impl<L: Links, R: Ranking> Repair<'_, L, R> {
         }
     }
 
-    // Repairs the matching at two loads, the lower first.
+    /// Repairs the matching at two loads, the lower first, as `repair` does; where neither is free,
+    /// nothing is left to do. Looks at the links of the free ones of the two, and at those of the
+    /// loads that become free or are no longer.
     pub fn repair_two(&self, tables: &mut Tables, a: usize, b: usize)
-        ensures { OnBook L.Links.made L.Links.graph R.Ranking.before self.now (λ before t g. Changes g (repair before t g (in_order a b)) tables.old tables.new) }
+        ensures { OnBook L.Links.made L.Links.graph R.Ranking.before self.now
+            (λ before t g. Changes g (repair before t g (in_order a b)) tables.old tables.new) }
     {
-        self.repair(tables, &[a.min(b), a.max(b)]);
+        if tables.is_free(a) || tables.is_free(b) {
+            self.repair(tables, &[a.min(b), a.max(b)]);
+        }
     }
 }
