@@ -16,13 +16,17 @@ pub record Holds (g : Graph) (p : Partners) (t : Tables) : Type 0 where
 abbrev pub Changes : Graph → (Partners → Partners) → Tables → Tables → Type 0
 Changes g change s t = Agrees g s → Matching g (partners_of s) → Holds g (change (partners_of s)) t
 
--- the first augmenting path of three links that begins at a was taken, and r says whether there was one
-pub record Augmented (before : Ranking) (g : Graph) (p : Partners) (a : ℕ) (r : Bool) (t : Tables) : Type 0 where
+-- the first augmenting path of three links that begins at a was taken, and r says whether there was
+-- one
+pub record Augmented (before : Ranking) (g : Graph) (p : Partners) (a : ℕ) (r : Bool) (t : Tables)
+    : Type 0 where
   pub found : r ≡ is_some (path_start_of before g p a)
   pub holds : Holds g (augment before g a p) t
 
 abbrev pub Augments : Ranking → Graph → ℕ → Bool → Tables → Tables → Type 0
-Augments before g a r s t = Free (partners_of s) a → Agrees g s → Matching g (partners_of s) → Augmented before g (partners_of s) a r t
+Augments before g a r s t =
+    Free (partners_of s) a → Agrees g s → Matching g (partners_of s)
+    → Augmented before g (partners_of s) a r t
 
 -- r says whether x has a partner of at most n links
 abbrev pub LightPartner : ℕ → ℕ → Tables → Bool → Type 0

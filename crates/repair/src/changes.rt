@@ -1,4 +1,5 @@
-// The second phase of a repair at one load: an augmenting path is taken, or a light load is displaced.
+// The second phase of a repair at one load: an augmenting path is taken, or a light load is
+// displaced.
 ghost use Rattle.std.specs.Prelude.{◌≡◌};
 ghost use Rattle.graph.specs.Matching.{Free};
 ghost use Rattle.rules.specs.Repair.{light_start_of, displace, improve};
@@ -36,7 +37,8 @@ impl<L: Links, R: Ranking> Repair<'_, L, R> {
         true
     }
 
-    // The first in a's ranking of the loads linked to a whose partner has at most `threshold` links.
+    // The first in a's ranking of the loads linked to a whose partner has at most `threshold`
+    // links.
     fn light_start(&self, tables: &Tables, a: usize) -> Option<usize>
         ensures { OnBook L.Links.made L.Links.graph R.Ranking.before self.now
             (λ before t g. Agrees g tables.now

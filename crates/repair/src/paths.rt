@@ -49,19 +49,23 @@ impl<L: Links, R: Ranking> Repair<'_, L, R> {
 
     // The first in a's ranking with which an augmenting path of three links goes on from a.
     fn path_start(&self, tables: &Tables, a: usize) -> Option<usize>
-        ensures { OnBook L.Links.made L.Links.graph R.Ranking.before self.now (λ before t g. Agrees g tables.now → result ≡ path_start_of before g (partners_of tables.now) a) }
+        ensures { OnBook L.Links.made L.Links.graph R.Ranking.before self.now
+            (λ before t g. Agrees g tables.now
+            → result ≡ path_start_of before g (partners_of tables.now) a) }
     {
         let walk = linked_loads(self.links, a, 256);
         best_of(self.ranking, a, walk, |x| goes_over(tables, a, x))
     }
 
-    // The first augmenting path of three links that begins at a, with its four loads in their order.
+    // The first augmenting path of three links that begins at a: its four loads in their order.
     pub(super) fn find_path(
         &self,
         tables: &Tables,
         a: usize,
     ) -> Option<(usize, usize, usize, usize)>
-        ensures { OnBook L.Links.made L.Links.graph R.Ranking.before self.now (λ before t g. Agrees g tables.now → PathIs before g (partners_of tables.now) a result) }
+        ensures { OnBook L.Links.made L.Links.graph R.Ranking.before self.now
+            (λ before t g. Agrees g tables.now
+            → PathIs before g (partners_of tables.now) a result) }
     {
         let x = self.path_start(tables, a)?;
         let y = tables.partner(x)?;

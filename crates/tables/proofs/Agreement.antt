@@ -3,8 +3,8 @@ use Rattle.std.proofs.Common.{◌≡◌, ℕ, ◌<◌, ◌≤◌, Bool, true, fa
 use mathlib.Core.Path.{fun_ext}
 use Rattle.std.proofs.lemmas.Bool.{cases_lt, ne_eqb, eqb-true, cond-false}
 use Rattle.std.proofs.lemmas.Bool.Decides.{nat_tests}
-use Rattle.graph.specs.Graph.{Graph, Simple, is_pair}
-use Rattle.graph.specs.Matching.{Partners, Free}
+use Rattle.graph.specs.Graph.{Graph, Simple}
+use Rattle.graph.specs.Matching.{Partners}
 use Rattle.graph.specs.Pairs.{is_free}
 use Rattle.graph.proofs.Partners.{none_free}
 use Rattle.graph.proofs.Paths.{free_taken, free_apart}
@@ -12,8 +12,8 @@ use Rattle.rules.specs.Repair.{paired, freed}
 use Rattle.rules.proofs.Updates.{paired_other}
 use Rattle.tables.specs.declared.Tables.{Tables}
 use Rattle.tables.specs.Views.{partners_of, free_linked, Tracks, Agrees}
-use Rattle.tables.specs.Steps.{stepped, Stepped, with_partner, Written}
-use Rattle.tables.specs.Changes.{relinked, step_if, Relinked, Relinking, Told, Pairing, Parting, Exchanging, Replacing}
+use Rattle.tables.specs.Steps.{Stepped, Written}
+use Rattle.tables.specs.Changes.{relinked, step_if, Relinking, Told, Pairing, Parting, Exchanging, Replacing}
 use Rattle.tables.proofs.Tracks.{told_track, relinked_track}
 
 -- ---- links

@@ -1,11 +1,12 @@
-// What follows a change of a link or of a partner. A flag `on` or `up` says what holds afterwards: linked or not, free or
-// not. It is a bool, as the bit that is written.
+// What follows a change of a link or of a partner. A flag `on` or `up` says what holds afterwards:
+// linked or not, free or not. It is a bool, as the bit that is written.
 ghost use Rattle.std.specs.Prelude.{◌≡◌, ℕ, ◌≤◌, true, false, None, ◌&&◌, ◌⊎◌, ◌==◌, nat_eq};
 ghost use Rattle.graph.specs.Pairs.{is_free};
 ghost use Rattle.rules.specs.Repair.{paired};
 ghost use Rattle.tables.specs.Views.{partners_of};
 ghost use Rattle.tables.specs.Steps.{stepped, Stepped, with_partner, Written};
-ghost use Rattle.tables.specs.Changes.{OfBook, Relinking, Pairing, Parting, Exchanging, Replacing};
+ghost use Rattle.tables.specs.Changes.{OfBook, Relinking, Pairing, Parting};
+ghost use Rattle.tables.specs.Changes.{Exchanging, Replacing};
 
 use crate::Tables;
 use links::Links;
@@ -42,7 +43,8 @@ impl Tables {
 
     // a gets or loses a link to b.
     fn put_link(&mut self, a: u8, b: u8, on: bool)
-        ensures { Stepped on (nat_eq a) (λ y. (a == y) && is_free (partners_of self.old) b) b self.old self.new }
+        ensures { Stepped on (nat_eq a) (λ y. (a == y) && is_free (partners_of self.old) b) b
+            self.old self.new }
     {
         let free = self.is_free(b as usize);
         self.count_link(a, on);
@@ -62,8 +64,9 @@ impl Tables {
         }
     }
 
-    /// Follows a link of `a` and `b` that the book gained: each of the two has one link more, and a free load in its set
-    /// if the other is free. Does nothing where a number is not below 256. Writes the records and sets of the two loads.
+    /// Follows a link of `a` and `b` that the book gained: each has one link more, and is linked to
+    /// one free load more if the other is free. To be called when the two, which were not, are
+    /// linked. Does nothing where a number is not below 256. Writes the records and sets of both.
     pub fn link(&mut self, a: usize, b: usize)
         ensures changed { Relinking true a b self.old self.new }
         ensures ignored { (256 ≤ a) ⊎ (256 ≤ b) → self.new ≡ self.old }
@@ -71,8 +74,10 @@ impl Tables {
         self.relink(a, b, true);
     }
 
-    /// Follows a link of `a` and `b` that the book lost: each of the two has one link fewer, and the other no longer in
-    /// its set. Does nothing where a number is not below 256. Writes the records and sets of the two loads.
+    /// Follows a link of `a` and `b` that the book lost: each has one link fewer, and is linked to
+    /// one free load fewer if the other is free. To be called when the two, which were, are no
+    /// longer linked. Does nothing where a number is not below 256. Writes the records and sets of
+    /// both.
     pub fn unlink(&mut self, a: usize, b: usize)
         ensures changed { Relinking false a b self.old self.new }
         ensures ignored { (256 ≤ a) ⊎ (256 ≤ b) → self.new ≡ self.old }
@@ -82,7 +87,8 @@ impl Tables {
 
     // Each load that is linked to a learns that a is now free, or no longer.
     fn tell_linked<L: Links>(&mut self, links: &L, a: u8, on: bool)
-        ensures { OfBook (L.Links.made links.now) (L.Links.graph links.now) (λ g. Stepped on (λ _. false) (g.linked a) a self.old self.new) }
+        ensures { OfBook (L.Links.made links.now) (L.Links.graph links.now)
+            (λ g. Stepped on (λ _. false) (g.linked a) a self.old self.new) }
     {
         for x in linked_loads(links, usize::from(a), 256) {
             self.tell(x as u8, a, on);
@@ -104,10 +110,11 @@ impl Tables {
         self.write_partner(a, Some(b));
     }
 
-    /// Makes partners of `a` and `b`, which are free: the loads linked to either learn that it no longer is. Does nothing
-    /// where a number is not below 256. Looks at the links of `a` and `b`.
+    /// Makes partners of `a` and `b`, which are free: each load linked to one of them learns that
+    /// it no longer is. Does nothing where a number is not below 256. Looks at the links of both.
     pub fn pair<L: Links>(&mut self, links: &L, a: usize, b: usize)
-        ensures changed { OfBook (L.Links.made links.now) (L.Links.graph links.now) (λ g. Pairing g a b self.old self.new) }
+        ensures changed { OfBook (L.Links.made links.now) (L.Links.graph links.now)
+            (λ g. Pairing g a b self.old self.new) }
         ensures ignored { (256 ≤ a) ⊎ (256 ≤ b) → self.new ≡ self.old }
     {
         if let (Ok(a), Ok(b)) = (u8::try_from(a), u8::try_from(b)) {
@@ -117,10 +124,11 @@ impl Tables {
         }
     }
 
-    /// Parts `a` and `b`, which are partners: the loads linked to either learn that it is free. Does nothing where a
-    /// number is not below 256. Looks at the links of `a` and `b`.
+    /// Parts `a` and `b`, which are partners: each load linked to one of them learns that it is now
+    /// free. Does nothing where a number is not below 256. Looks at the links of both.
     pub fn part<L: Links>(&mut self, links: &L, a: usize, b: usize)
-        ensures changed { OfBook (L.Links.made links.now) (L.Links.graph links.now) (λ g. Parting g a b self.old self.new) }
+        ensures changed { OfBook (L.Links.made links.now) (L.Links.graph links.now)
+            (λ g. Parting g a b self.old self.new) }
         ensures ignored { (256 ≤ a) ⊎ (256 ≤ b) → self.new ≡ self.old }
     {
         if let (Ok(a), Ok(b)) = (u8::try_from(a), u8::try_from(b)) {
@@ -131,11 +139,13 @@ impl Tables {
         }
     }
 
-    /// Takes the augmenting path `a`, `x`, `y`, `z`: the partners `x` and `y` are parted, and `a` gets `x` and the free
-    /// load `z` gets `y`. Only the loads linked to `a` or `z` learn of it, since `x` and `y` have partners as before. Does
-    /// nothing where a number is not below 256. Looks at the links of `a` and `z`.
+    /// Takes the augmenting path `a`, `x`, `y`, `z`, of which `a` and `z` are free and `x` and `y`
+    /// are partners: `a` and `x` become partners, and so do `y` and `z`. Only the loads linked to
+    /// `a` or `z` learn of it, since `x` and `y` have a partner as before. Does nothing where a
+    /// number is not below 256. Looks at the links of `a` and `z`.
     pub fn exchange<L: Links>(&mut self, links: &L, a: usize, x: usize, y: usize, z: usize)
-        ensures changed { OfBook (L.Links.made links.now) (L.Links.graph links.now) (λ g. Exchanging g a x y z self.old self.new) }
+        ensures changed { OfBook (L.Links.made links.now) (L.Links.graph links.now)
+            (λ g. Exchanging g a x y z self.old self.new) }
         ensures ignored { (256 ≤ a) ⊎ (256 ≤ x) ⊎ (256 ≤ y) ⊎ (256 ≤ z) → self.new ≡ self.old }
     {
         if let (Ok(a), Ok(x), Ok(y), Ok(z)) = (
@@ -151,11 +161,13 @@ impl Tables {
         }
     }
 
-    /// Puts `a`, which is free, in the place of `y` as the partner of `x`, and leaves `y` free. Only the loads linked to
-    /// `a` or `y` learn of it, since `x` has a partner as before. Does nothing where a number is not below 256. Looks at
-    /// the links of `a` and `y`.
+    /// Puts `a`, which is free, in the place of `y`, the partner of `x`: `a` and `x` become
+    /// partners, and `y` becomes free. Only the loads linked to `a` or `y` learn of it, since `x`
+    /// has a partner as before. Does nothing where a number is not below 256. Looks at the links of
+    /// `a` and `y`.
     pub fn replace<L: Links>(&mut self, links: &L, a: usize, x: usize, y: usize)
-        ensures changed { OfBook (L.Links.made links.now) (L.Links.graph links.now) (λ g. Replacing g a x y self.old self.new) }
+        ensures changed { OfBook (L.Links.made links.now) (L.Links.graph links.now)
+            (λ g. Replacing g a x y self.old self.new) }
         ensures ignored { (256 ≤ a) ⊎ (256 ≤ x) ⊎ (256 ≤ y) → self.new ≡ self.old }
     {
         if let (Ok(a), Ok(x), Ok(y)) = (u8::try_from(a), u8::try_from(x), u8::try_from(y)) {
