@@ -1,8 +1,8 @@
 -- What the steps of a repair do to the tables.
-use Rattle.std.specs.Prelude.{◌≡◌, ℕ, Bool, true, is_some, Some}
+use Rattle.std.specs.Prelude.{◌≡◌, ℕ, Bool, is_some}
 use Rattle.graph.specs.Graph.{Graph}
 use Rattle.graph.specs.Matching.{Partners, Free, Matching}
-use Rattle.rules.specs.Repair.{Ranking, paired, freed, light_partner, path_start_of, augment}
+use Rattle.rules.specs.Repair.{Ranking, light_partner, path_start_of, augment}
 use Rattle.tables.specs.declared.Tables.{Tables}
 use Rattle.tables.specs.Views.{partners_of, Agrees}
 
@@ -16,17 +16,17 @@ pub record Holds (g : Graph) (p : Partners) (t : Tables) : Type 0 where
 abbrev pub Changes : Graph → (Partners → Partners) → Tables → Tables → Type 0
 Changes g change s t = Agrees g s → Matching g (partners_of s) → Holds g (change (partners_of s)) t
 
--- a, which is free, takes x, which it is linked to, from the partner y of x
-abbrev pub Takes : Graph → ℕ → ℕ → ℕ → Tables → Tables → Type 0
-Takes g a x y s t = Free (partners_of s) a → g.linked a x ≡ true → partners_of s x ≡ Some y → Changes g (λ p. freed y (paired a x p)) s t
-
--- the first augmenting path of three links that begins at a was taken, and r says whether there was one
-pub record Augmented (before : Ranking) (g : Graph) (p : Partners) (a : ℕ) (r : Bool) (t : Tables) : Type 0 where
+-- the first augmenting path of three links that begins at a was taken, and r says whether there was
+-- one
+pub record Augmented (before : Ranking) (g : Graph) (p : Partners) (a : ℕ) (r : Bool) (t : Tables)
+    : Type 0 where
   pub found : r ≡ is_some (path_start_of before g p a)
   pub holds : Holds g (augment before g a p) t
 
 abbrev pub Augments : Ranking → Graph → ℕ → Bool → Tables → Tables → Type 0
-Augments before g a r s t = Free (partners_of s) a → Agrees g s → Matching g (partners_of s) → Augmented before g (partners_of s) a r t
+Augments before g a r s t =
+    Free (partners_of s) a → Agrees g s → Matching g (partners_of s)
+    → Augmented before g (partners_of s) a r t
 
 -- r says whether x has a partner of at most n links
 abbrev pub LightPartner : ℕ → ℕ → Tables → Bool → Type 0

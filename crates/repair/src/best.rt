@@ -12,7 +12,8 @@ pub(super) fn best_of<R: Ranking, S: Rising + Drop, F: Fn(usize) -> bool>(
     test: F,
 ) -> Option<usize>
     requires { F.IsAlwaysCallable test }
-    ensures { BestOf S.Rising.reliable S.Rising.member (F.post test) (R.Ranking.before ranking.now a) walk result }
+    ensures { BestOf S.Rising.reliable S.Rising.member (F.post test)
+        (R.Ranking.before ranking.now a) walk result }
 {
     let mut best = None;
     for x in walk {

@@ -1,10 +1,11 @@
-// The second phase of a repair at one load: an augmenting path is taken, or a light load is displaced.
+// The second phase of a repair at one load: an augmenting path is taken, or a light load is
+// displaced.
 ghost use Rattle.std.specs.Prelude.{◌≡◌};
 ghost use Rattle.graph.specs.Matching.{Free};
 ghost use Rattle.rules.specs.Repair.{light_start_of, displace, improve};
 ghost use Rattle.tables.specs.Views.{partners_of, Agrees};
 ghost use Rattle.repair.specs.Book.{OnBook};
-ghost use Rattle.repair.specs.Holds.{Changes, Takes, Augments, LightPartner};
+ghost use Rattle.repair.specs.Holds.{Changes, Augments, LightPartner};
 
 use crate::Repair;
 use crate::best::best_of;
@@ -23,29 +24,25 @@ fn has_light_partner(tables: &Tables, threshold: usize, x: usize) -> bool
 }
 
 impl<L: Links, R: Ranking> Repair<'_, L, R> {
-    // a, which is free, takes x, which it is linked to, from the partner y of x.
-    fn take(&self, tables: &mut Tables, a: usize, x: usize, y: usize)
-        ensures { OnBook L.Links.made L.Links.graph R.Ranking.before self.now (λ before t g. Takes g a x y tables.old tables.new) }
-    {
-        tables.part(self.links, x, y);
-        tables.pair(self.links, a, x);
-    }
-
-    // Takes the first augmenting path of three links that begins at a, which is free. Answers whether there is one.
-    pub fn augment(&self, tables: &mut Tables, a: usize) -> bool
-        ensures { OnBook L.Links.made L.Links.graph R.Ranking.before self.now (λ before t g. Augments before g a result tables.old tables.new) }
+    // Takes the first augmenting path of three links that begins at a, which is free. Answers
+    // whether there is one.
+    fn augment(&self, tables: &mut Tables, a: usize) -> bool
+        ensures { OnBook L.Links.made L.Links.graph R.Ranking.before self.now
+            (λ before t g. Augments before g a result tables.old tables.new) }
     {
         let Some((_, x, y, z)) = self.find_path(tables, a) else {
             return false;
         };
-        self.take(tables, a, x, y);
-        tables.pair(self.links, y, z);
+        tables.exchange(self.links, a, x, y, z);
         true
     }
 
-    // The first in a's ranking of the loads linked to a whose partner has at most `threshold` links.
+    // The first in a's ranking of the loads linked to a whose partner has at most `threshold`
+    // links.
     fn light_start(&self, tables: &Tables, a: usize) -> Option<usize>
-        ensures { OnBook L.Links.made L.Links.graph R.Ranking.before self.now (λ before t g. Agrees g tables.now → result ≡ light_start_of before t g (partners_of tables.now) a) }
+        ensures { OnBook L.Links.made L.Links.graph R.Ranking.before self.now
+            (λ before t g. Agrees g tables.now
+            → result ≡ light_start_of before t g (partners_of tables.now) a) }
     {
         let walk = linked_loads(self.links, a, 256);
         let is_light = |x| has_light_partner(tables, self.threshold, x);
@@ -53,23 +50,30 @@ impl<L: Links, R: Ranking> Repair<'_, L, R> {
     }
 
     // a, which is free, displaces a light load if a has more than `threshold` links.
-    pub fn displace(&self, tables: &mut Tables, a: usize)
-        ensures { OnBook L.Links.made L.Links.graph R.Ranking.before self.now (λ before t g. Free (partners_of tables.old) a → Changes g (displace before t g a) tables.old tables.new) }
+    fn displace(&self, tables: &mut Tables, a: usize)
+        ensures { OnBook L.Links.made L.Links.graph R.Ranking.before self.now
+            (λ before t g. Free (partners_of tables.old) a
+            → Changes g (displace before t g a) tables.old tables.new) }
     {
         if tables.links(a) > self.threshold
             && let Some(x) = self.light_start(tables, a)
             && let Some(y) = tables.partner(x)
         {
-            self.take(tables, a, x, y);
+            tables.replace(self.links, a, x, y);
             self.augment(tables, y);
         }
     }
 
-    // Improves the matching at a, if a is free: an augmenting path is taken, or else a light load is displaced.
-    pub fn improve(&self, tables: &mut Tables, a: usize)
-        ensures { OnBook L.Links.made L.Links.graph R.Ranking.before self.now (λ before t g. Changes g (improve before t g a) tables.old tables.new) }
+    // Improves the matching at a, if a is free and has links: an augmenting path is taken, or else
+    // a light load is displaced.
+    pub(super) fn improve(&self, tables: &mut Tables, a: usize)
+        ensures { OnBook L.Links.made L.Links.graph R.Ranking.before self.now
+            (λ before t g. Changes g (improve before t g a) tables.old tables.new) }
     {
-        if tables.is_free(a) && !self.augment(tables, a) {
+        if !tables.is_free(a) || tables.links(a) == 0 {
+            return;
+        }
+        if !self.augment(tables, a) {
             self.displace(tables, a);
         }
     }

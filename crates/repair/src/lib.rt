@@ -1,5 +1,5 @@
-// The repair of a matching at a list of loads, carried out on the tables of a board: first each load of the list is
-// matched with a free one, then each that is still free is improved.
+// The repair of a matching at a list of loads, carried out on the tables of a board: first each
+// load of the list is matched with a free one, then each that is still free is improved.
 #![tactic(auto)]
 
 ghost use Rattle.std.specs.Prelude.{◌≡◌};
@@ -14,9 +14,14 @@ use tables::Tables;
 
 mod best;
 mod changes;
-pub mod paths;
+mod paths;
 
-// What a repair goes by: the links, the ranking, and the most links that a free load may keep.
+/// What a repair goes by: the links, the ranking by which loads choose, and the threshold, which is
+/// the most links that a free load may keep.
+///
+/// The tables are lent to each call. They are to agree with the graph of the links and to hold a
+/// matching of it; then they do so afterwards, with the partners that the rules of repair give.
+/// Numbers past the tables are passed over.
 #[derive(Drop)]
 pub struct Repair<'a, L, R> {
     links: &'a L,
@@ -25,6 +30,7 @@ pub struct Repair<'a, L, R> {
 }
 
 impl<'a, L, R> Repair<'a, L, R> {
+    /// A repair by these links, this ranking and this threshold, which may be any number.
     pub fn new(links: &'a L, ranking: &'a R, threshold: usize) -> Repair<'a, L, R>
         ensures links { result.links.now ≡ links.now }
         ensures ranking { result.ranking.now ≡ ranking.now }
@@ -39,9 +45,14 @@ impl<'a, L, R> Repair<'a, L, R> {
 }
 
 impl<L: Links, R: Ranking> Repair<'_, L, R> {
-    // Repairs the matching at the loads, in their order.
+    /// Repairs the matching at the loads, in their order: first each that is free is matched with
+    /// the first free load that it is linked to, then an augmenting path of three links is taken at
+    /// each that is still free, or else, where it has more links than the threshold, a light load
+    /// is displaced. Loads that have a partner or no links are passed over. Looks at the links of
+    /// the free loads of the list, and at those of each load that becomes free or is no longer.
     pub fn repair(&self, tables: &mut Tables, loads: &[usize])
-        ensures { OnBook L.Links.made L.Links.graph R.Ranking.before self.now (λ before t g. Changes g (repair before t g loads.now) tables.old tables.new) }
+        ensures { OnBook L.Links.made L.Links.graph R.Ranking.before self.now
+            (λ before t g. Changes g (repair before t g loads.now) tables.old tables.new) }
     {
         for &load in loads {
             tables.match_free(self.links, self.ranking, load);
@@ -51,10 +62,15 @@ impl<L: Links, R: Ranking> Repair<'_, L, R> {
         }
     }
 
-    // Repairs the matching at two loads, the lower first.
+    /// Repairs the matching at two loads, the lower first, as `repair` does. Where neither is free
+    /// it does nothing, and looks at two records. Else it looks at the links of the free ones of
+    /// the two, and at those of each load that becomes free or is no longer.
     pub fn repair_two(&self, tables: &mut Tables, a: usize, b: usize)
-        ensures { OnBook L.Links.made L.Links.graph R.Ranking.before self.now (λ before t g. Changes g (repair before t g (in_order a b)) tables.old tables.new) }
+        ensures { OnBook L.Links.made L.Links.graph R.Ranking.before self.now
+            (λ before t g. Changes g (repair before t g (in_order a b)) tables.old tables.new) }
     {
-        self.repair(tables, &[a.min(b), a.max(b)]);
+        if tables.is_free(a) || tables.is_free(b) {
+            self.repair(tables, &[a.min(b), a.max(b)]);
+        }
     }
 }

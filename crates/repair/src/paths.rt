@@ -20,7 +20,7 @@ fn is_free_linked(tables: &Tables, y: usize, z: usize) -> bool
 }
 
 // Whether y is linked to a free load other than `besides`.
-pub fn has_other_free(tables: &Tables, y: usize, besides: usize) -> bool
+fn has_other_free(tables: &Tables, y: usize, besides: usize) -> bool
     ensures { HasOther y besides tables.now result }
 {
     if is_free_linked(tables, y, besides) {
@@ -41,7 +41,7 @@ fn goes_over(tables: &Tables, a: usize, x: usize) -> bool
 
 impl<L: Links, R: Ranking> Repair<'_, L, R> {
     // The first in y's ranking of the free loads that y is linked to, other than `besides`.
-    pub fn first_other_free(&self, tables: &Tables, y: usize, besides: usize) -> Option<usize>
+    fn first_other_free(&self, tables: &Tables, y: usize, besides: usize) -> Option<usize>
         ensures { FirstOther (R.Ranking.before self.now.ranking.now) y besides tables.now result }
     {
         best_of(self.ranking, y, tables.free_loads(y), |z| z != besides)
@@ -49,15 +49,23 @@ impl<L: Links, R: Ranking> Repair<'_, L, R> {
 
     // The first in a's ranking with which an augmenting path of three links goes on from a.
     fn path_start(&self, tables: &Tables, a: usize) -> Option<usize>
-        ensures { OnBook L.Links.made L.Links.graph R.Ranking.before self.now (λ before t g. Agrees g tables.now → result ≡ path_start_of before g (partners_of tables.now) a) }
+        ensures { OnBook L.Links.made L.Links.graph R.Ranking.before self.now
+            (λ before t g. Agrees g tables.now
+            → result ≡ path_start_of before g (partners_of tables.now) a) }
     {
         let walk = linked_loads(self.links, a, 256);
         best_of(self.ranking, a, walk, |x| goes_over(tables, a, x))
     }
 
-    // The first augmenting path of three links that begins at a, with its four loads in their order.
-    pub fn find_path(&self, tables: &Tables, a: usize) -> Option<(usize, usize, usize, usize)>
-        ensures { OnBook L.Links.made L.Links.graph R.Ranking.before self.now (λ before t g. Agrees g tables.now → PathIs before g (partners_of tables.now) a result) }
+    // The first augmenting path of three links that begins at a: its four loads in their order.
+    pub(super) fn find_path(
+        &self,
+        tables: &Tables,
+        a: usize,
+    ) -> Option<(usize, usize, usize, usize)>
+        ensures { OnBook L.Links.made L.Links.graph R.Ranking.before self.now
+            (λ before t g. Agrees g tables.now
+            → PathIs before g (partners_of tables.now) a result) }
     {
         let x = self.path_start(tables, a)?;
         let y = tables.partner(x)?;

@@ -1,5 +1,5 @@
 -- Tables in which nothing is recorded.
-use Rattle.std.proofs.Common.{◌≡◌, ℕ, ◌/◌, ◌%◌, false, is_some, count_by, get_or, replicate, sym, refl, ap, ◌∙◌, ⊎_elim, arith}
+use Rattle.std.proofs.Common.{◌≡◌, ℕ, ◌/◌, ◌%◌, false, get_or, replicate, sym, refl, ap, ◌∙◌, ⊎_elim, arith}
 use Rattle.std.proofs.lemmas.List.{get_or-replicate, get_or_past, length-replicate}
 use Rattle.std.proofs.lemmas.Bool.{cases_lt}
 use Rattle.graph.proofs.Counts.{count_none}
@@ -28,10 +28,9 @@ module _ (m n : ℕ) where
       (λ h. ap (λ (s : LoadSet). has s b) (get_or_past (replicate n zeros) a empty (omega (arith, length-replicate n zeros))) ∙ bit_zero (b % 64))
       (cases_lt a n)
 
-  pub new_tables : (counted : 0 ≡ count_by (λ (r : Record). is_some r.partner) (replicate n blank)) →
-      New (record { records = replicate n blank; free = replicate n (record { words = replicate m 0 }); matched = 0; counted = counted })
+  pub new_tables : New (record { records = replicate n blank; free = replicate n (record { words = replicate m 0 }) })
   unfolding zeros
-  new_tables counted = record {
+  new_tables = record {
     partners = λ i a. (get_all n a blank i).partner;
     agrees = λ k. record {
       tracks = record {

@@ -1,14 +1,16 @@
 -- How a free load finds a partner by the tables.
-use Rattle.std.specs.Prelude.{◌≡◌, ℕ, Option}
-use Rattle.graph.specs.Graph.{Graph, Simple}
+use Rattle.std.specs.Prelude.{◌≡◌, ℕ, ◌≤◌, false, Option}
+use Rattle.graph.specs.Graph.{Graph}
 use Rattle.rules.specs.First.{first}
-use Rattle.rules.specs.Repair.{Ranking, free_link, match_free}
+use Rattle.rules.specs.Repair.{Ranking, match_free}
 use Rattle.tables.specs.declared.Tables.{Tables}
-use Rattle.tables.specs.Views.{partners_of, Agrees}
+use Rattle.tables.specs.Views.{partners_of, free_linked, Agrees}
 
--- r is the first of the free loads that a is linked to
+-- on any tables, r is the first of the free loads that a is linked to, which all stand below n
 abbrev pub FirstFree : Ranking → ℕ → Tables → Option ℕ → Type 0
-FirstFree before a t r = (g : Graph) → Simple g → Agrees g t → r ≡ first (before a) g.size (free_link g (partners_of t) a)
+FirstFree before a t r =
+    (n : ℕ) → n ≤ 256 → ((y : ℕ) → n ≤ y → free_linked t a y ≡ false)
+    → r ≡ first (before a) n (free_linked t a)
 
 -- a, if it is free, was matched with the first free load that it is linked to
 pub record Matched (before : Ranking) (g : Graph) (a : ℕ) (s t : Tables) : Type 0 where

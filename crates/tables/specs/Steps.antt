@@ -1,5 +1,7 @@
 -- The small steps by which the tables are changed.
-use Rattle.std.specs.Prelude.{◌≡◌, ℕ, ◌+◌, ◌-◌, min, Bool, true, false, cond, ◌&&◌, Option, ◌==◌}
+use Rattle.std.specs.Prelude.{◌≡◌, ℕ, ◌+◌, ◌-◌, min, Bool, true, false, cond, ◌&&◌, ◌==◌}
+use Rattle.std.specs.Prelude.{Option}
+use Rattle.graph.specs.Matching.{Partners}
 use Rattle.tables.specs.declared.Tables.{Tables}
 use Rattle.tables.specs.Views.{partners_of, links_of, free_count_of, free_linked}
 
@@ -8,17 +10,23 @@ abbrev pub stepped : Bool → ℕ → ℕ
 stepped true n = min (n + 1) 65535
 stepped false n = n - 1
 
--- the links of the loads that pass `linked` go one up or down, and b is put into the sets of those that pass `told`, or
--- taken out of them
+-- the links of the loads that pass `linked` go one up or down, and b is put into the sets of those
+-- that pass `told`, or taken out of them
 pub record Stepped (on : Bool) (linked told : ℕ → Bool) (b : ℕ) (s t : Tables) : Type 0 where
   pub partners : (y : ℕ) → partners_of t y ≡ partners_of s y
-  pub degrees : (y : ℕ) → links_of t y ≡ cond (linked y) (stepped on (links_of s y)) (links_of s y)
-  pub counts : (y : ℕ) → free_count_of t y ≡ cond (told y) (stepped on (free_count_of s y)) (free_count_of s y)
+  pub degrees : (y : ℕ) → links_of t y
+      ≡ cond (linked y) (stepped on (links_of s y)) (links_of s y)
+  pub counts : (y : ℕ) → free_count_of t y
+      ≡ cond (told y) (stepped on (free_count_of s y)) (free_count_of s y)
   pub sets : (y z : ℕ) → free_linked t y z ≡ cond (told y && b == z) on (free_linked s y z)
 
--- the partner of a is written, and nothing else
-pub record PartnerWritten (a : ℕ) (o : Option ℕ) (s t : Tables) : Type 0 where
-  pub partners : (y : ℕ) → partners_of t y ≡ cond (y == a) o (partners_of s y)
+-- a has the partner o, or none
+abbrev pub with_partner : ℕ → Option ℕ → Partners → Partners
+with_partner a o p x = cond (x == a) o (p x)
+
+-- the partners p are written, and nothing else
+pub record Written (p : Partners) (s t : Tables) : Type 0 where
+  pub partners : (y : ℕ) → partners_of t y ≡ p y
   pub degrees : (y : ℕ) → links_of t y ≡ links_of s y
   pub counts : (y : ℕ) → free_count_of t y ≡ free_count_of s y
   pub sets : (y z : ℕ) → free_linked t y z ≡ free_linked s y z

@@ -47,7 +47,8 @@ pub record Tracks (g : Graph) (free : ℕ → Bool) (t : Tables) : Type 0 where
   pub sets : (a b : ℕ) → free_linked t a b ≡ (g.linked a b && free b)
   pub counts : (a : ℕ) → free_count_of t a ≡ count g.size (λ b. g.linked a b && free b)
 
--- the tables agree with the graph g: a load is free if they record no partner of it, and past the size none has one
+-- the tables agree with the graph g: a load is free if they record no partner of it, and past the
+-- size none has one
 pub record Agrees (g : Graph) (t : Tables) : Type 0 where
   pub tracks : Tracks g (is_free (partners_of t)) t
   pub beyond : (a : ℕ) → g.size ≤ a → partners_of t a ≡ None

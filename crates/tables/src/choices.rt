@@ -1,5 +1,7 @@
 // How a load finds a free load among those that it is linked to.
-ghost use Rattle.tables.specs.Views.{Agrees};
+ghost use Rattle.std.specs.Prelude.{◌≡◌, false};
+ghost use Rattle.graph.specs.Pairs.{is_free};
+ghost use Rattle.tables.specs.Views.{partners_of, Agrees};
 ghost use Rattle.tables.specs.Changes.{OfBook};
 ghost use Rattle.tables.specs.Choices.{FirstFree, Matched};
 
@@ -8,7 +10,9 @@ use links::Links;
 use ranking::Ranking;
 
 impl Tables {
-    // The first in a's ranking of the free loads that a is linked to.
+    /// The first in the ranking of `a` of the free loads that `a` is linked to, if there is one;
+    /// none where `a` is not below 256. Looks at up to four words for each of them, and compares
+    /// it once.
     pub fn first_free<R: Ranking>(&self, ranking: &R, a: usize) -> Option<usize>
         ensures { FirstFree (R.Ranking.before ranking.now) a self.now result }
     {
@@ -19,11 +23,18 @@ impl Tables {
         best
     }
 
-    // Matches a, if it is free, with the first in its ranking of the free loads that it is linked to.
+    /// Pairs `a`, if it is free, with the first in its ranking of the free loads that it is linked
+    /// to. Does nothing where `a` has a partner, is linked to no free load, or is not below 256.
+    /// Looks at the free loads linked to `a` as `first_free` does, and where there are any at the
+    /// links of the two new partners.
     pub fn match_free<L: Links, R: Ranking>(&mut self, links: &L, ranking: &R, a: usize)
-        ensures { OfBook (L.Links.made links.now) (L.Links.graph links.now) (λ g. Agrees g self.old → Matched (R.Ranking.before ranking.now) g a self.old self.new) }
+        ensures matched { OfBook (L.Links.made links.now) (L.Links.graph links.now)
+            (λ g. Agrees g self.old
+            → Matched (R.Ranking.before ranking.now) g a self.old self.new) }
+        ensures kept { is_free (partners_of self.old) a ≡ false → self.new ≡ self.old }
     {
         if self.is_free(a)
+            && self.free_links(a) > 0
             && let Some(b) = self.first_free(ranking, a)
         {
             self.pair(links, a, b);

@@ -1,8 +1,6 @@
-// The tables of a board: the partner and the degree of each load, and which of the loads linked to it are free.
+// The tables of a board: the partner and the degree of each load, and which of the loads linked to
+// it are free.
 #![tactic(auto)]
-
-ghost use Rattle.std.specs.Prelude.{◌≡◌, is_some};
-ghost use Rattle.std.specs.List.{count_by};
 
 mod changes;
 mod choices;
@@ -10,7 +8,8 @@ mod load_set;
 mod questions;
 pub mod walk;
 
-// What is kept of a load: its partner, how many links it has, and how many of them lead to free loads.
+/// What is kept of a load: its partner, how many links it has, and how many of them lead to free
+/// loads.
 #[derive(Clone, Copy)]
 pub struct Record {
     partner: Option<u8>,
@@ -18,18 +17,22 @@ pub struct Record {
     free_links: u16,
 }
 
-// A set of loads: load b is bit b mod 64 of word b / 64.
+/// A set of loads below 256, of four words: load `b` is bit `b mod 64` of word `b / 64`.
 #[derive(Clone, Copy)]
 pub struct LoadSet {
     words: [u64; 4],
 }
 
+/// A record for each of 256 loads, and for each the set of the free loads that it is linked to.
+///
+/// The tables do not hold the links. They follow them: `link` and `unlink` are told of each link,
+/// and the calls that change partners are lent the links and walk over those of the loads that
+/// become free or are no longer. The questions then cost a look at one record or one set, and none
+/// walks over links. A number that is not below 256 is free and has no links; a call that is to
+/// change one does nothing.
 #[derive(Drop)]
 pub struct Tables {
     records: [Record; 256],
     // for each load, the free loads that it is linked to
     free: [LoadSet; 256],
-    // how many loads have a partner
-    matched: u16,
-    ghost counted: { matched ≡ count_by (λ r. is_some r.partner) records },
 }

@@ -9,7 +9,8 @@ use bits::{next_member, put_bit};
 impl LoadSet {
     // Puts b into the set, or takes it out: afterwards `present` says whether it is a member.
     pub(super) fn put(&mut self, b: u8, present: bool)
-        ensures { (y : ℕ) → has self.new y ≡ (if nat_eq b y then present else has self.old y) }
+        ensures { (y : ℕ)
+            → has self.new y ≡ (if nat_eq b y then present else has self.old y) }
     {
         let w = usize::from(b / 64);
         self.words[w] = put_bit(self.words[w], usize::from(b), present);

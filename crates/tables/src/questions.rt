@@ -2,11 +2,12 @@
 ghost use Rattle.std.specs.Prelude.{◌≡◌, ◌<◌, IfSome};
 ghost use Rattle.graph.specs.Graph.{Next};
 ghost use Rattle.graph.specs.Pairs.{is_free};
-ghost use Rattle.tables.specs.Views.{record_of, partners_of, links_of, free_count_of, free_linked, matched_of, New};
+ghost use Rattle.tables.specs.Views.{record_of, partners_of, links_of, free_count_of};
+ghost use Rattle.tables.specs.Views.{free_linked, matched_of, New};
 
 use crate::{LoadSet, Record, Tables};
 
-// A load that is free and has no links.
+// The record of a load that is free and has no links.
 const BLANK: Record = Record {
     partner: None,
     links: 0,
@@ -14,23 +15,24 @@ const BLANK: Record = Record {
 };
 
 impl Tables {
-    // All loads are free, and have no links.
+    /// Tables of 256 loads that are all free and have no links. Writes every record and every set.
     pub fn new() -> Tables
         ensures { New result }
     {
         Tables {
             records: [BLANK; 256],
             free: [LoadSet { words: [0; 4] }; 256],
-            matched: 0,
         }
     }
 
+    // The record of a, or that of a free load without links where a is not below 256.
     fn record(&self, a: usize) -> Record
         ensures { result ≡ record_of self.now a }
     {
         self.records.get(a).copied().unwrap_or(BLANK)
     }
 
+    /// The partner of `a`, if it has one; none where `a` is not below 256. Looks at one record.
     pub fn partner(&self, a: usize) -> Option<usize>
         ensures value { result ≡ partners_of self.now a }
         ensures bound { IfSome result (λ b. b < 256) }
@@ -38,34 +40,41 @@ impl Tables {
         self.record(a).partner.map(usize::from)
     }
 
+    /// Whether `a` has no partner, as is so where `a` is not below 256. Looks at one record.
     pub fn is_free(&self, a: usize) -> bool
         ensures { result ≡ is_free (partners_of self.now) a }
     {
         self.record(a).partner.is_none()
     }
 
-    // The number of loads that have a partner.
+    /// The number of loads that have a partner, 0 to 256. It is counted anew at each call: looks at
+    /// each of the 256 records.
     pub fn matched(&self) -> usize
         ensures { result ≡ matched_of self.now }
     {
-        usize::from(self.matched)
+        self.records
+            .iter()
+            .filter(|record| record.partner.is_some())
+            .count()
     }
 
-    // The number of links of a load.
+    /// The number of links of `a`; 0 where `a` is not below 256. Looks at one record.
     pub fn links(&self, a: usize) -> usize
         ensures { result ≡ links_of self.now a }
     {
         usize::from(self.record(a).links)
     }
 
-    // The number of free loads that a load is linked to.
+    /// The number of free loads that `a` is linked to; 0 where `a` is not below 256. Looks at one
+    /// record.
     pub fn free_links(&self, a: usize) -> usize
         ensures { result ≡ free_count_of self.now a }
     {
         usize::from(self.record(a).free_links)
     }
 
-    // The smallest free load at or above `from` that is linked to `a`.
+    /// The smallest free load at or above `from` that `a` is linked to, if there is one; none where
+    /// `a` or `from` is not below 256. Looks at up to four words.
     pub fn next_free_linked(&self, a: usize, from: usize) -> Option<usize>
         ensures value { Next (free_linked self.now a) from result }
         ensures bound { IfSome result (λ b. b < 256) }

@@ -6,7 +6,7 @@ ghost use Rattle.tables.specs.Walks.{OverFree};
 use crate::Tables;
 use links::walk::{Rising, Walk};
 
-// The free loads that a load is linked to.
+/// The free loads that a load is linked to, as a set that can be asked for its next member.
 #[derive(Clone, Copy)]
 pub struct FreeLinked<'a> {
     tables: &'a Tables,
@@ -24,7 +24,8 @@ impl Rising for FreeLinked<'_> {
 }
 
 impl Tables {
-    // A walk over the free loads that a is linked to.
+    /// A walk over the free loads that `a` is linked to, in rising order; over none where `a` is
+    /// not below 256. Each step looks at up to four words.
     pub fn free_loads(&self, a: usize) -> Walk<FreeLinked<'_>>
         ensures over { OverFree self.now a result }
         ensures begins { result.from ≡ 0 }

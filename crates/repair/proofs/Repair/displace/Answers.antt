@@ -5,5 +5,5 @@ use Rattle.repair.proofs.Repair.displace.Goals as goal
 pub returns-in-Some-partner : goal.returns-in-Some-partner
 returns-in-Some-partner g c = λ made simple free agrees matching.
     displace_pair (g.R.Ranking.before c.args.self.now.ranking.now) c.args.self.now.threshold (g.L.Links.graph c.args.self.now.links.now) c.args.a agrees matching (omega arith)
-    c.in-Some.x (sym (c.in-Some.ensures made simple agrees)) c.in-Some-partner.y (sym c.partner.ensures.value ∙ c.in-Some-partner.is)
-    free (c.take.ensures made simple) (c.augment.ensures made simple)
+    c.in-Some.x (sym (c.in-Some.ensures made simple agrees)) simple c.in-Some-partner.y (sym c.partner.ensures.value ∙ c.in-Some-partner.is)
+    free (c.replace.ensures.changed made simple) (c.augment.ensures made simple)

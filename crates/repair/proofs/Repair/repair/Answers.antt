@@ -9,7 +9,7 @@ loop-load-preserved g c = λ made simple.
     let graph = g.L.Links.graph c.args.self.now.links.now in
     let loads = c.args.loads.now in
     let at = c.loop-load.load-index in
-    each_more (match_free before graph) graph loads at c.loop-load-test.true (c.loop-load.invariant made simple) (matches graph simple before (get_or loads at 0) (c.match_free.ensures made simple))
+    each_more (match_free before graph) graph loads at c.loop-load-test.true (c.loop-load.invariant made simple) (matches graph simple before (get_or loads at 0) (c.match_free.ensures.matched made simple))
 
 pub loop-load-2-preserved : goal.loop-load-2-preserved
 loop-load-2-preserved g c = λ made simple.

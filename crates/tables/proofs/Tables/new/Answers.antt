@@ -2,4 +2,4 @@ use Rattle.tables.proofs.New.{new_tables}
 use Rattle.tables.proofs.Tables.new.Goals as goal
 
 pub returns : goal.returns
-returns c = new_tables 4 256 _
+returns c = new_tables 4 256
