@@ -73,8 +73,8 @@ impl Ranking for ByDetour<'_> {
     }
 }
 
-/// Loads 0 to 3 at 0, 0, at -3, 4, at 5, 1 and at -5, 4. For load 0, load 2 comes before load 1, and
-/// for load 1, load 3 comes before load 2: the nearer load, though it has the higher number.
+/// Loads 0 to 3 at 0, 0, at -3, 4, at 5, 1 and at -5, 4. For load 0, load 2 comes before load 1,
+/// and for load 1, load 3 comes before load 2: the nearer load, though it has the higher number.
 pub fn nearer_first() -> bool
     ensures called { result ≡ true }
     ensures computed { NearerFirst }
