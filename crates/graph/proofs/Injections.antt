@@ -53,6 +53,13 @@ total_at_least (suc n) k test f h =
     let ih = total_at_least n k test f (λ x l. h x (omega arith)) in
     elim (cases_Bool (test n)) [ inl e ↦ let here = h n (omega arith) e in rw e (omega arith) | inr e ↦ rw e (omega arith) ]
 
+count_all : (n : ℕ) → count n (λ _. true) ≡ n
+count_all zero = refl
+count_all (suc n) = omega (arith, count_all n)
+
+pub total_least : (n k : ℕ) (f : ℕ → ℕ) → ((x : ℕ) → x < n → k ≤ f x) → n * k ≤ total n f
+total_least n k f h = rw (count_all n) at (total_at_least n k (λ _. true) f (λ x l _. h x l))
+
 pub total_below : (n : ℕ) (f h : ℕ → ℕ) → ((x : ℕ) → f x ≤ h x) → total n f ≤ total n h
 total_below zero f h k = omega arith
 total_below (suc n) f h k = omega (arith, total_below n f h k, k n)
@@ -64,6 +71,18 @@ total_plus (suc n) f h = omega (arith, total_plus n f h)
 pub total_count : (n : ℕ) (test : ℕ → Bool) → total n (λ x. cond (test x) 1 0) ≡ count n test
 total_count zero test = refl
 total_count (suc n) test = omega (arith, total_count n test)
+
+-- tests within q, of which no number passes two
+pub count_disjoint : (k n : ℕ) (test : ℕ → ℕ → Bool) (q : ℕ → Bool) → ((i x : ℕ) → i < k → test i x ≡ true → q x ≡ true) →
+    ((i j x : ℕ) → test i x ≡ true → test j x ≡ true → i ≡ j) → total k (λ i. count n (test i)) ≤ count n q
+count_disjoint zero n test q within apart = omega arith
+count_disjoint (suc k) n test q within apart =
+    let others = count_disjoint k n test (λ x. q x && not (test k x)) (λ i x l h.
+    let off : test k x ≡ false = elim (cases_Bool (test k x)) [ inl e ↦ let same = apart i k x h e in absurd (omega arith) | inr e ↦ e ] in
+    and_from (q x) (not (test k x)) (within i x (omega arith) h) (not_from_false (test k x) off)) apart in
+    let split = count_split n q (test k) in
+    let last = count_below n (test k) (λ x. q x && test k x) (λ x _ h. and_from (q x) (test k x) (within k x (omega arith) h) h) in
+    omega arith
 
 -- ---- degrees and links
 

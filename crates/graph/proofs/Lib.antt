@@ -4,6 +4,9 @@ pub mod Injections
 pub mod Partners
 pub mod Short
 pub mod Pairs
+pub mod Alternating
+pub mod Levels
+pub mod Approximation
 pub mod TwoThirds
 pub mod Changes
 pub mod Ends

@@ -18,10 +18,15 @@ detour places a b = distance (place_of places a) (place_of places b)
 abbrev pub nearer : List Place → ℕ → ℕ → ℕ → Bool
 nearer places a = by_key (detour places a)
 
--- the loads 0, 1 and 2 at 0, 0, at 5, 1 and at -3, 4
-abbrev pub three_places : List Place
-three_places =
-    record { x = pos 0; y = pos 0 } ∷ record { x = pos 5; y = pos 1 } ∷ record { x = negsuc 2; y = pos 4 } ∷ []
+-- loads 0 to 3 at 0, 0, at −3, 4, at 5, 1 and at −5, 4
+abbrev pub four_places : List Place
+four_places =
+    record { x = pos 0; y = pos 0 } ∷ record { x = negsuc 2; y = pos 4 }
+    ∷ record { x = pos 5; y = pos 1 } ∷ record { x = negsuc 4; y = pos 4 } ∷ []
 
-abbrev pub NearerFirst : Type 0
-NearerFirst = (detour three_places 0 1 ≡ 6) × (detour three_places 0 2 ≡ 7) × (nearer three_places 0 1 2 ≡ true)
+-- the nearer load comes first, though it has the higher number; nearer to the load that is asked
+pub record NearerFirst : Type 0 where
+  pub detours_from_0 : (detour four_places 0 1 ≡ 7) × (detour four_places 0 2 ≡ 6)
+  pub order_for_0 : nearer four_places 0 2 1 ≡ true
+  pub detours_from_1 : (detour four_places 1 2 ≡ 11) × (detour four_places 1 3 ≡ 2)
+  pub order_for_1 : nearer four_places 1 3 2 ≡ true
