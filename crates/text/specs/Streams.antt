@@ -90,7 +90,8 @@ pub record Spelled (stream text : List ℕ) : Type 0 where
   pub text_is : text ≡ flat_map full_line commands
   pub each_means : AllByRecursion (λ c. Means (line_of c) c) commands
 
--- reading stops at this place, which the commands before it lead to; at 0 where the stream is too long
+-- reading stops at this place, which the commands before it lead to; where the stream is too long it
+-- stops at once
 pub record StopsAt (stream : List ℕ) (place : ℕ) (refused : Refused) : Type 0 where
   pub before : (text : List ℕ) × Spelled (take place stream) text
   pub reason : reading stream place ≡ Some (told refused)

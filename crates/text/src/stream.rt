@@ -122,8 +122,8 @@ fn push_full_line(text: &mut String, command: Command) -> Result<(), AllocError>
 
 /// The text of the commands of a stream, a line for each, in memory from `heap`.
 ///
-/// A stream of more than 65,536 bytes is refused with 3 at place 0. Any other is refused at the first
-/// place where no command begins, with 12 or 13. The time grows with the length of the stream.
+/// A stream of more than 65,536 bytes is refused with 3 at place 0. Any other is refused with 12 or
+/// 13 at the first place where no command begins. The time grows with the length of the stream.
 pub fn decode(heap: Global, stream: &[u8]) -> Result<String, BadStream>
     ensures { Decodes stream.now result }
 {
