@@ -3,8 +3,9 @@
 
 ghost use Rattle.std.specs.Prelude.{◌≡◌, ◌≤◌, length};
 ghost use Rattle.links.specs.Outputs.{Writes};
+ghost use Rattle.replies.specs.declared.Reply.TheVariants.{With, No};
 ghost use Rattle.replies.specs.Digits.{DigitsDecimal, TwoDigitsDecimal};
-ghost use Rattle.replies.specs.Lines.{words, line, pair_line};
+ghost use Rattle.replies.specs.Lines.{line, pair_line};
 ghost use Rattle.replies.specs.Worked.{WorkedLines};
 
 use arrayvec::ArrayString;
@@ -17,55 +18,64 @@ pub const LONGEST_LINE: usize = 19;
 // No pair has a longer line.
 pub const LONGEST_PAIR: usize = 8;
 
-// What a step answers.
+/// What a step answers.
 #[derive(Clone, Copy, PartialEq, Eq, Debug)]
 pub enum Reply {
     Done,
     Alone,
-    // the partner
+    /// The partner.
     With(u16),
-    // why, and the place of the command byte in the stream
+    /// Why, and the place of the command byte in the stream.
     No(Refused, u16),
 }
 
 impl Reply {
-    // Writes the line of the reply at the start of `out`, and answers its length. 19 bytes are enough for every reply.
+    /// Writes the line of the reply at the start of `out`, and answers its length.
+    ///
+    /// Refused with 14 where `out` is shorter than the line; 19 bytes are enough for every reply.
     pub fn write(self, out: &mut [u8]) -> Result<usize, Refused>
         ensures writes { Writes (line self) out.old result out.new }
         ensures short { length (line self) ≤ 19 }
     {
-        let mut line = self.words();
-        line.push_str("\n");
-        write_start(line.as_bytes(), out)
-    }
-
-    // The reply without its line feed. Not a Display: formatting may fail, and a reply never does.
-    #[tactic(auto, using(crate::proofs::Digits::digits_are))]
-    fn words(self) -> ArrayString<LONGEST_LINE>
-        ensures bytes { result.bytes ≡ words self }
-        ensures short { length (words self) ≤ 18 }
-    {
-        let mut text = ArrayString::new();
         match self {
-            Reply::Done => text.push_str("ok"),
-            Reply::Alone => text.push_str("alone"),
-            Reply::With(partner) => {
-                text.push_str("with ");
-                text.push_str(Buffer::new().format(partner));
-            }
-            Reply::No(refused, place) => {
-                let number = refused.refusal.number();
-                text.push_str("no ");
-                text.push(char::from(b'0' + number / 10));
-                text.push(char::from(b'0' + number % 10));
-                text.push_str(" ");
-                text.push_str(refused.layer.name());
-                text.push_str(" ");
-                text.push_str(Buffer::new().format(place));
-            }
+            Reply::Done => write_start(b"ok\n", out),
+            Reply::Alone => write_start(b"alone\n", out),
+            Reply::With(partner) => write_start(with_line(partner).as_bytes(), out),
+            Reply::No(refused, place) => write_start(no_line(refused, place).as_bytes(), out),
         }
-        text
     }
+}
+
+// A line with a number is made whole before it is written, so that nothing is where it does not fit.
+// Not a Display: formatting may fail, and a reply never does.
+#[tactic(auto, using(crate::proofs::Digits::digits_are))]
+fn with_line(partner: u16) -> ArrayString<LONGEST_LINE>
+    ensures bytes { result.bytes ≡ line (With partner) }
+    ensures short { length (line (With partner)) ≤ 19 }
+{
+    let mut line = ArrayString::new();
+    line.push_str("with ");
+    line.push_str(Buffer::new().format(partner));
+    line.push_str("\n");
+    line
+}
+
+#[tactic(auto, using(crate::proofs::Digits::digits_are))]
+fn no_line(refused: Refused, place: u16) -> ArrayString<LONGEST_LINE>
+    ensures bytes { result.bytes ≡ line (No refused place) }
+    ensures short { length (line (No refused place)) ≤ 19 }
+{
+    let number = refused.refusal.number();
+    let mut line = ArrayString::new();
+    line.push_str("no ");
+    line.push(char::from(b'0' + number / 10));
+    line.push(char::from(b'0' + number % 10));
+    line.push_str(" ");
+    line.push_str(refused.layer.name());
+    line.push_str(" ");
+    line.push_str(Buffer::new().format(place));
+    line.push_str("\n");
+    line
 }
 
 // Writes the line of two partners at the start of `out`, and answers its length. 8 bytes are enough for every two.

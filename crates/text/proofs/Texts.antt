@@ -1,27 +1,22 @@
 -- Whole texts line by line, and streams command by command.
-use Rattle.std.proofs.Common.{◌≡◌, ℕ, zero, suc, ◌+◌, ◌-◌, ◌<◌, ◌≤◌, true, false, eqb, leb, List, [], ◌∷◌, ◌++◌, map, length, get_or, take, is_ok, None, Err, sym, refl, ap, ◌∙◌, ⊎_elim, append_assoc, arith, length-append, take-add, below_more}
+use Rattle.std.proofs.Common.{◌≡◌, ℕ, zero, suc, ◌+◌, ◌-◌, ◌<◌, ◌≤◌, true, false, eqb, leb, List, [], ◌∷◌, ◌++◌, map, length, get_or, take, is_ok, None, Err, sym, refl, ap, ◌∙◌, ⊎_elim, append_assoc, arith, take-add, below_more}
 use Rattle.std.specs.List.{between, flat_map, onto_first, AllByRecursion}
 use Rattle.std.proofs.slice.Lists.{all_by_recursion_push}
 use Rattle.std.proofs.lemmas.List.{take_more, take_all, flat_map_more}
 use Rattle.std.proofs.lemmas.Bool.{leb-true, cases_Bool, cond-true, cond-false}
-use Rattle.commands.specs.Commands.{bytes, line_of, read_at}
+use Rattle.std.proofs.lemmas.Bool.Decides.{nat_tests}
+use Rattle.commands.specs.Commands.{bytes, line_of, reading, read_at}
 use Rattle.commands.specs.declared.Command.{Command}
 use Rattle.text.specs.Words.{front}
 use Rattle.text.specs.Lines.{meaning, Means}
-use Rattle.text.specs.Streams.{lines, answer_bytes, line_bytes, Good, stream_of, FirstBad, StandsFor, full_line, Spelled, Appends, Encodes}
+use Rattle.text.specs.Streams.{lines, answer_bytes, line_bytes, first_bytes, Good, FirstBad, TooMany, StandsFor, full_line, Spelled, Appends, Encodes}
 use Rattle.text.specs.declared.stream.BadText.{BadText}
 use Rattle.text.specs.declared.stream.BadText.TheVariants.{Line, TooLong, NoMemory}
-
-joined_take_le : (k : ℕ) (ls : List (List ℕ)) → length (flat_map line_bytes (take k ls)) ≤ length (flat_map line_bytes ls)
-joined_take_le zero ls = omega arith
-joined_take_le (suc k) [] = omega arith
-joined_take_le (suc k) (l ∷ ls) =
-    omega (arith, length-append (line_bytes l) (flat_map line_bytes (take k ls)), length-append (line_bytes l) (flat_map line_bytes ls), joined_take_le k ls)
 
 -- the first k lines of a text are good, and gave this stream
 pub record Sofar (text : List ℕ) (k : ℕ) (stream : List ℕ) : Type 0 where
   pub good : Good text k
-  pub bytes_are : stream ≡ flat_map line_bytes (take k (lines text))
+  pub bytes_are : stream ≡ first_bytes text k
   pub short : length stream ≤ 65536
 
 module _ {text : List ℕ} {k : ℕ} {stream : List ℕ} (so_far : Sofar text k stream) where
@@ -35,7 +30,15 @@ module _ {text : List ℕ} {k : ℕ} {stream : List ℕ} (so_far : Sofar text k 
   -- the next line
   module _ (line : List ℕ) (inside : k < length (lines text)) (is : line ≡ get_or (lines text) k []) where
     first_bad : is_ok (meaning line) ≡ false → FirstBad text (k + 1)
-    first_bad bad = record { index = k; counted = refl; inside = inside; bad = ap (λ l. is_ok (meaning l)) (sym is) ∙ bad; before = so_far.good }
+    first_bad bad =
+        record {
+          index = k;
+          counted = refl;
+          inside = inside;
+          bad = ap (λ l. is_ok (meaning l)) (sym is) ∙ bad;
+          before = so_far.good;
+          short = omega (arith, ap length so_far.bytes_are, so_far.short);
+        }
 
     pub refused : (number : ℕ) (after : List ℕ) (e : BadText) → number ≡ k + 1 → Appends line number stream (Err e) after → Encodes text (Err e)
     refused number after (Line n) counted told = rw (told.0, counted) (first_bad told.1)
@@ -43,7 +46,7 @@ module _ {text : List ℕ} {k : ℕ} {stream : List ℕ} (so_far : Sofar text k 
     refused number after NoMemory counted told = tt
 
     module _ (after : List ℕ) (follows : after ≡ stream ++ line_bytes line) where
-      bytes_more : after ≡ flat_map line_bytes (take (k + 1) (lines text))
+      bytes_more : after ≡ first_bytes text (k + 1)
       bytes_more =
           follows
           ∙ (ap (λ bs. bs ++ line_bytes line) so_far.bytes_are
@@ -51,19 +54,29 @@ module _ {text : List ℕ} {k : ℕ} {stream : List ℕ} (so_far : Sofar text k 
           ∙ (flat_map_more line_bytes [] (take k (lines text)) (get_or (lines text) k [])
           ∙ ap (flat_map line_bytes) (sym (take_more (lines text) k [] inside)))))
 
-      pub too_long : 65536 < length after → 65536 < length (stream_of text)
-      too_long long = omega (arith, ap length bytes_more, joined_take_le (k + 1) (lines text))
+      module _ (good : is_ok (meaning line) ≡ true) where
+        good_more : Good text (k + 1)
+        good_more = below_more _ _ so_far.good (ap (λ l. is_ok (meaning l)) (sym is) ∙ good)
 
-      pub sofar_more : is_ok (meaning line) ≡ true → length after ≤ 65536 → Sofar text (k + 1) after
-      sofar_more good fits =
-          record {
-            good = below_more _ _ so_far.good (ap (λ l. is_ok (meaning l)) (sym is) ∙ good);
-            bytes_are = bytes_more;
-            short = fits;
-          }
+        pub too_many : 65536 < length after → TooMany text
+        too_many long =
+            record {
+              count = k + 1;
+              inside = omega arith;
+              good = good_more;
+              more = omega (arith, ap length bytes_more);
+            }
+
+        pub sofar_more : length after ≤ 65536 → Sofar text (k + 1) after
+        sofar_more fits = record { good = good_more; bytes_are = bytes_more; short = fits }
 
 take_between : (place next : ℕ) (stream : List ℕ) → place ≤ next → next ≤ length stream → take next stream ≡ take place stream ++ between place next stream
 take_between place next stream ahead within = ap (λ k. take k stream) (omega arith) ∙ take-add place (next - place) stream
+
+-- the commands before this place are those of the text; a stream that is too long is not begun
+pub record Reached (stream : List ℕ) (place : ℕ) (text : List ℕ) : Type 0 where
+  pub spelled : Spelled (take place stream) text
+  pub at_once : 65536 < length stream → place ≡ 0
 
 pub spelled_more : (place next : ℕ) (stream text : List ℕ) (c : Command) → Spelled (take place stream) text → place < next → next ≤ length stream → between place next stream ≡ bytes c → Means (line_of c) c → Spelled (take next stream) (text ++ full_line c)
 spelled_more place next stream text c so_far ahead within written is =
@@ -73,6 +86,10 @@ spelled_more place next stream text c so_far ahead within written is =
       text_is = ap (λ t. t ++ full_line c) so_far.text_is ∙ flat_map_more full_line [] so_far.commands c;
       each_means = all_by_recursion_push (λ c. Means (line_of c) c) so_far.commands c so_far.each_means is;
     }
+
+-- a stream that is read from is short
+pub read_short : (stream : List ℕ) (place : ℕ) → reading stream place ≡ None → length stream ≤ 65536
+read_short stream place none = grind (arith, nat_tests)
 
 pub ended : (stream : List ℕ) (place : ℕ) → None ≡ read_at stream place → length stream ≤ place
 ended stream place none =

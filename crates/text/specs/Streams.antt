@@ -3,6 +3,7 @@ use Rattle.std.specs.Prelude.{◌≡◌, ℕ, ◌+◌, ◌<◌, ◌≤◌, true,
 use Rattle.std.specs.List.{slice_split, flat_map, AllByRecursion}
 use Rattle.std.specs.declared.alloc.Global.{Global}
 use Rattle.links.specs.Refusals.{told}
+use Rattle.links.specs.declared.refusal.Refused.{Refused}
 use Rattle.commands.specs.Commands.{bytes, line_of, reading}
 use Rattle.commands.specs.declared.Command.{Command}
 use Rattle.text.specs.Lines.{meaning, Means}
@@ -26,6 +27,10 @@ answer_bytes (Err e) = []
 abbrev pub line_bytes : List ℕ → List ℕ
 line_bytes line = answer_bytes (meaning line)
 
+-- the bytes of the commands of the first k lines
+abbrev pub first_bytes : List ℕ → ℕ → List ℕ
+first_bytes text k = flat_map line_bytes (take k (lines text))
+
 -- the first k lines of a text are good
 abbrev pub Good : List ℕ → ℕ → Type 0
 Good text k = (i : ℕ) → i < k → is_ok (meaning (slice_index_or (lines text) i [])) ≡ true
@@ -34,13 +39,22 @@ Good text k = (i : ℕ) → i < k → is_ok (meaning (slice_index_or (lines text
 abbrev pub stream_of : List ℕ → List ℕ
 stream_of text = flat_map line_bytes (lines text)
 
--- the line with this number, counted from 1, is the first that is bad
+-- the line with this number, counted from 1, is the first that is bad, and the lines before it have
+-- no more bytes than a stream may have
 pub record FirstBad (text : List ℕ) (number : ℕ) : Type 0 where
   pub index : ℕ
   pub counted : number ≡ index + 1
   pub inside : index < length (lines text)
   pub bad : is_ok (meaning (slice_index_or (lines text) index [])) ≡ false
   pub before : Good text index
+  pub short : length (first_bytes text index) ≤ 65536
+
+-- the lines up to one of them are good, and have more bytes than a stream may have
+pub record TooMany (text : List ℕ) : Type 0 where
+  pub count : ℕ
+  pub inside : count ≤ length (lines text)
+  pub good : Good text count
+  pub more : 65536 < length (first_bytes text count)
 
 -- every line is good, and this is the stream
 pub record StandsFor (text stream : List ℕ) : Type 0 where
@@ -57,7 +71,7 @@ Appends line number before (Err NoMemory) after = Unit {0}
 abbrev pub Encodes : List ℕ → Result (Vec ℕ Global) BadText → Type 0
 Encodes text (Ok stream) = StandsFor text (vec_items stream) × (length (vec_items stream) ≤ 65536)
 Encodes text (Err (Line number)) = FirstBad text number
-Encodes text (Err TooLong) = 65536 < length (stream_of text)
+Encodes text (Err TooLong) = TooMany text
 Encodes text (Err NoMemory) = Unit {0}
 
 -- how it is told that a text gives no stream
@@ -76,9 +90,16 @@ pub record Spelled (stream text : List ℕ) : Type 0 where
   pub text_is : text ≡ flat_map full_line commands
   pub each_means : AllByRecursion (λ c. Means (line_of c) c) commands
 
+-- reading stops at this place, which the commands before it lead to; where the stream is too long it
+-- stops at once
+pub record StopsAt (stream : List ℕ) (place : ℕ) (refused : Refused) : Type 0 where
+  pub before : (text : List ℕ) × Spelled (take place stream) text
+  pub reason : reading stream place ≡ Some (told refused)
+  pub at_once : 65536 < length stream → place ≡ 0
+
 abbrev pub Decodes : List ℕ → Result (String Global) BadStream → Type 0
 Decodes stream (Ok text) = Spelled stream (string_bytes text) × StandsFor (string_bytes text) stream
-Decodes stream (Err (At refused place)) = ((text : List ℕ) × Spelled (take place stream) text) × (reading stream place ≡ Some (told refused))
+Decodes stream (Err (At refused place)) = StopsAt stream place refused
 Decodes stream (Err bad_stream.NoMemory) = Unit {0}
 
 -- how it is told that a stream gives no text

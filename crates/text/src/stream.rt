@@ -13,11 +13,12 @@ use std::alloc::{AllocError, Global};
 use std::error::Error;
 use std::fmt;
 
-// Why a text gives no stream.
+/// Why a text gives no stream.
 #[derive(Clone, Copy, PartialEq, Eq, Debug)]
 pub enum BadText {
-    // the number of the first line that is bad, counted from 1
+    /// The number of the first line that is bad, counted from 1.
     Line(usize),
+    /// The commands come to more bytes than a stream may have.
     TooLong,
     NoMemory,
 }
@@ -44,10 +45,10 @@ impl fmt::Display for BadText {
 
 impl Error for BadText {}
 
-// Why a stream gives no text.
+/// Why a stream gives no text.
 #[derive(Clone, Copy, PartialEq, Eq, Debug)]
 pub enum BadStream {
-    // why, and the place of the command byte
+    /// Why, and the place of the command byte; 0 where the stream is too long.
     At(Refused, usize),
     NoMemory,
 }
@@ -94,7 +95,10 @@ fn push_line(stream: &mut Vec<u8>, line: &[u8], number: usize) -> Result<(), Bad
     Ok(())
 }
 
-// The stream of the commands of a text, line by line.
+/// The stream of the commands of a text, in memory from `heap`.
+///
+/// The text is taken line by line, and refused at the first line that is bad, or with which the
+/// commands come to more than 65,536 bytes. The time grows with the length of the text.
 pub fn encode(heap: Global, text: &[u8]) -> Result<Vec<u8>, BadText>
     ensures { Encodes text.now result }
 {
@@ -116,7 +120,10 @@ fn push_full_line(text: &mut String, command: Command) -> Result<(), AllocError>
     writeln!(text, "{command}")
 }
 
-// The text of the commands of a stream, a line for each.
+/// The text of the commands of a stream, a line for each, in memory from `heap`.
+///
+/// A stream of more than 65,536 bytes is refused with 3 at place 0. Any other is refused with 12 or
+/// 13 at the first place where no command begins. The time grows with the length of the stream.
 pub fn decode(heap: Global, stream: &[u8]) -> Result<String, BadStream>
     ensures { Decodes stream.now result }
 {

@@ -6,7 +6,7 @@ use Rattle.std.proofs.lemmas.Result.{err_from_is_err_and}
 use Rattle.std.proofs.lemmas.Iterator.Consumers.{YieldsList-at, YieldsList-from_enumerate, YieldsList-turn, YieldsList-end}
 use Rattle.std.proofs.lemmas.Iterator.Splits.{YieldsList-from_slice_split}
 use Rattle.text.specs.Streams.{lines}
-use Rattle.text.proofs.Texts.{refused, too_long, sofar_more, sofar_all}
+use Rattle.text.proofs.Texts.{refused, too_many, sofar_more, sofar_all}
 use Rattle.text.proofs.stream.encode.Goals as goal
 use Rattle.text.proofs.stream.encode.Goals.{In-Some}
 
@@ -29,7 +29,7 @@ returns-in_err-push_line c =
 pub returns-then-len-gt-LONGEST_STREAM : goal.returns-then-len-gt-LONGEST_STREAM
 returns-then-len-gt-LONGEST_STREAM c =
     let t = turn (goal.at.returns-then-len-gt-LONGEST_STREAM c).In-Some in
-    too_long c.loop-i.invariant _ t.0 t.1.1 _ c.in_ok-push_line.ensures.1 (omega (arith, c.push_line.new.stream.ok.0))
+    too_many c.loop-i.invariant _ t.0 t.1.1 _ c.in_ok-push_line.ensures.1 c.in_ok-push_line.ensures.0 (omega (arith, c.push_line.new.stream.ok.0))
 
 pub loop-i-preserved : goal.loop-i-preserved
 loop-i-preserved c =

@@ -1,9 +1,8 @@
-// The command stream with a maximum matching worked out anew after each command that changes a link, by LEMON.
+// The command stream with a maximum matching by LEMON after each command that changes a link.
 //
-//     scratch [--trace] < stream
-//
-// In the stream the partner that departs with a load is written after it, 65,535 for none. With --trace a line is written for
-// each command: how many pairs there then are, and how many loads it gave another partner or none.
+// In the stream the partner that departs with a load is written after it, 65,535 for none.
+#pragma once
+
 #include <lemon/list_graph.h>
 #include <lemon/matching.h>
 
@@ -14,9 +13,10 @@
 #include <iterator>
 #include <optional>
 #include <string_view>
+#include <utility>
 #include <vector>
 
-namespace {
+namespace maximum {
 
 using Graph = lemon::ListGraph;
 using Load = std::uint16_t;
@@ -115,7 +115,7 @@ private:
 };
 
 // Carries out a command on the links, and answers whether it changed any.
-bool play(Links& links, const Command& command) {
+inline bool play(Links& links, const Command& command) {
     switch (command.kind) {
         case kLink: return links.add(command.a, command.b);
         case kUnlink: return links.remove(command.a, command.b);
@@ -134,9 +134,8 @@ struct Matching {
     Matching() { partners.fill(kLoads); }
 };
 
-Matching largest(const Links& links) {
-    lemon::MaxMatching<Graph> search(links.graph());
-    search.run();
+// The largest matching that a search came to.
+inline Matching found(const lemon::MaxMatching<Graph>& search, const Links& links) {
     Matching matching;
     matching.pairs = search.matchingSize();
     for (Load a = 0; a < kLoads; ++a) {
@@ -148,7 +147,7 @@ Matching largest(const Links& links) {
     return matching;
 }
 
-int countChanged(const Matching& before, const Matching& after) {
+inline int countChanged(const Matching& before, const Matching& after) {
     int changed = 0;
     for (Load a = 0; a < kLoads; ++a) {
         changed += before.partners[a] != after.partners[a];
@@ -156,9 +155,11 @@ int countChanged(const Matching& before, const Matching& after) {
     return changed;
 }
 
-}  // namespace
-
-int main(int argc, char** argv) {
+// The program PROGRAM [--trace] < stream. A matching is worked out from the links and from the matching before it. With
+// --trace a line is written for each command: how many pairs there then are, and how many loads it gave another partner or
+// none.
+template <typename WorkOut>
+int run(int argc, char** argv, WorkOut workOut) {
     const bool tracing = argc == 2 && std::string_view(argv[1]) == "--trace";
     Reader reader({std::istreambuf_iterator<char>(std::cin), {}});
     Links links;
@@ -166,7 +167,7 @@ int main(int argc, char** argv) {
     while (const auto command = reader.next()) {
         int changed = 0;
         if (play(links, *command)) {
-            const Matching next = largest(links);
+            const Matching next = workOut(links, matching);
             changed = tracing ? countChanged(matching, next) : 0;
             matching = next;
         }
@@ -177,4 +178,7 @@ int main(int argc, char** argv) {
     if (!tracing) {
         std::printf("%d\n", matching.pairs);
     }
+    return 0;
 }
+
+}  // namespace maximum
