@@ -176,11 +176,11 @@ module _ {B R F : Type 0} {graph : B → Graph} {made : B → Type 0} {ledger : 
 
 -- ---- what a step keeps
 
-module _ {B R F : Type 0} {graph : B → Graph} {made : B → Type 0} {ledger : B → Ledger} {fixed : B → F} {before : R → Ranking} where
-  taken_ranking : (found : Found) {s t : Board B R} {place : ℕ} {from out : List ℕ} {r : Stepped} → Takes graph made ledger fixed before found s place from r t out → t.ranking ≡ s.ranking
+module _ {B R F : Type 0} (graph : B → Graph) (made : B → Type 0) (ledger : B → Ledger) (fixed : B → F) (before : R → Ranking) (s t : Board B R) (place : ℕ) (from out : List ℕ) (r : Stepped) where
+  taken_ranking : (found : Found) → Takes graph made ledger fixed before found s place from r t out → t.ranking ≡ s.ranking
   taken_ranking at_end takes = ap (λ (b : Board B R). b.ranking) takes.0
   taken_ranking (no_command why) takes = ap (λ (b : Board B R). b.ranking) takes.0
   taken_ranking (command c) takes = takes.steps.ranking_is
 
-  pub ranking_kept : {s t : Board B R} {stream : List ℕ} {place : ℕ} {from out : List ℕ} {r : Stepped} → Steps graph made ledger fixed before s stream place from (Ok r) t out → t.ranking ≡ s.ranking
-  ranking_kept {stream = stream} {place = place} steps = taken_ranking (found_at stream place) steps.answers.1
+  pub ranking_kept : (stream : List ℕ) → Steps graph made ledger fixed before s stream place from (Ok r) t out → t.ranking ≡ s.ranking
+  ranking_kept stream steps = taken_ranking (found_at stream place) steps.answers.1

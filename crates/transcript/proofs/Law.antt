@@ -1,5 +1,5 @@
 -- The law of runs, at every moment of the play of an input.
-use Rattle.std.proofs.Common.{◌≡◌, ℕ, zero, suc, ◌≤◌, Bool, true, false, List, length, None, Some, cond, sym, refl, ap, ◌∙◌, subst, inl, inr, ⊎_elim, lit≤}
+use Rattle.std.proofs.Common.{◌≡◌, ℕ, zero, suc, ◌≤◌, Bool, true, false, List, length, ◌==◌, sym, refl, subst, lit≤}
 use Rattle.std.proofs.lemmas.Bool.{cond_both}
 use Rattle.graph.specs.Graph.{edgeless}
 use Rattle.rules.specs.Boards.{by_number, fresh, fresh_ledger}

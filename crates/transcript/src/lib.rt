@@ -114,10 +114,7 @@ fn push_pairs<B: Book, R: Ranking>(board: &Board<B, R>, text: &mut Vec<u8>) -> R
 }
 
 // Plays the input on a fresh board of 256 loads, with at most 2,048 links and the lower number first.
-#[tactic(
-    auto,
-    using(crate::proofs::Playing::played_out, crate::proofs::Law::keeps_law)
-)]
+#[tactic(auto, using(crate::proofs::Playing::played_out))]
 pub fn transcript(heap: Global, input: &[u8]) -> Result<Vec<u8>, Failure>
     ensures ends { Ends (transcribing input.now) result (λ v. v.items ≡ transcript input.now) }
     ensures whole { PlayedOut }

@@ -11,7 +11,7 @@ returns g c =
     let text = vec_items c.args.text.now in
     let line = take c.in_ok-stepped.stepped.written c.step.new.out in
     record {
-      ranking_is = ranking_kept steps;
+      ranking_is = ranking_kept g.B.Links.graph g.B.Links.made g.B.Book.ledger g.B.Book.fixed g.R.Ranking.before c.args.board.now c.step.new.board c.args.place _ _ c.in_ok-stepped.stepped c.args.stream.now steps;
       ends = (
         step_granted c.args.stream.now (replicate {A = ℕ} 19 0) steps.answers.0,
         λ stood.
