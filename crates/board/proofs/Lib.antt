@@ -10,3 +10,4 @@ pub mod Unlinked
 pub mod Withdrawn
 pub mod Departed
 pub mod Runs
+pub mod Told

@@ -55,15 +55,6 @@ listed_more p lines part text rest a k n m listed inside is size short written =
       few = let few = listed.few in let eight = eight_times (is_lower p a) in omega arith;
     }
 
--- a question for a partner, on a board that stands
-module _ {B R F : Type 0} {graph : B → Graph} {made : B → Type 0} {ledger : B → Ledger} {fixed : B → F} {before : R → Ranking} (s : Board B R) where
-  pub asked_partner : Stands graph made ledger s → (a : ℕ) → a < (graph s.book).size → (r : Result (Option ℕ) Refused) →
-      Steps graph made ledger fixed before s (ask_partner a) r s → r ≡ Ok (partners_of s.tables a)
-  asked_partner stood a inside (Ok o) step = ap Ok ((step.partners stood).value)
-  asked_partner stood a inside (Err e) step =
-      let granted = cond-false (leb (graph s.book).size a) _ _ (lt-leb (graph s.book).size a inside) in
-      absurd (none-some (told e) (sym granted ∙ (step.links stood.book_made).decides))
-
 some_reason : (b : Bool) (o : Option Reason) (r : Reason) → cond b o None ≡ Some r → o ≡ Some r
 some_reason true o r e = e
 some_reason false o r e = absurd (none-some r e)

@@ -41,9 +41,9 @@ pub not_refused : {o : Option Reason} (e : Refused) → o ≡ None → o ≡ Som
 not_refused e none some = let z : ◌≡◌ {A = ℕ} 0 1 = cc in omega arith
 
 -- a call that has one is refused for it
-pub refused_with : (o : Option Reason) (r : Result Unit Refused) (f : Refused) → Answers o r (λ _. Unit {0}) → o ≡ Some (told f) → r ≡ Err f
-refused_with o (Ok x) f h some = absurd (not_refused f h.0 some)
-refused_with o (Err e) f h some = let same : told e ≡ told f = cc in ap Err (told_same e f same)
+pub refused_with : {A : Type 0} (P : A → Type 0) (o : Option Reason) (r : Result A Refused) (f : Refused) → Answers o r P → o ≡ Some (told f) → r ≡ Err f
+refused_with P o (Ok x) f h some = absurd (not_refused f h.0 some)
+refused_with P o (Err e) f h some = let same : told e ≡ told f = cc in ap Err (told_same e f same)
 
 -- a question that is not refused gets its answer
 pub answered : {A : Type 0} (o : Option Reason) (r : Result A Refused) (a : A) → Answers o r (λ x. x ≡ a) → o ≡ None → r ≡ Ok a

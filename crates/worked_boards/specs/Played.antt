@@ -10,6 +10,7 @@ use Rattle.rules.specs.Repair.{Ranking}
 use Rattle.tables.specs.Views.{partners_of}
 use Rattle.board.specs.declared.Board.{Board}
 use Rattle.board.specs.Boards.{position, Stands}
+use Rattle.board.specs.Runs.{Run}
 
 -- each pair of loads linked
 abbrev pub linkings : List (ℕ × ℕ) → List Call
@@ -25,14 +26,19 @@ abbrev pub first_refusal : Ranking → List Call → Position → Option Reason
 first_refusal before [] x = None
 first_refusal before (c ∷ rest) x = or_else (reason x c) (first_refusal before rest (after before x c))
 
--- links made on a board s up to the first refusal, answered r, lead to the board t: where s stood and all are granted, it is
--- at the position that the rules lead to
-pub record Plays {B R : Type 0} (graph : B → Graph) (made : B → Type 0) (ledger : B → Ledger) (before : R → Ranking) (s : Board B R) (pairs : List (ℕ × ℕ)) (r : Result Unit Refused) (t : Board B R) : Type 0 where
-  pub ranking_is : t.ranking ≡ s.ranking
-  pub stands : Stands graph made ledger s → Stands graph made ledger t
-  pub answers : Stands graph made ledger s → Answers (first_refusal (before s.ranking) (linkings pairs) (position graph ledger s)) r
-      (λ _. position graph ledger t ≡ played_by (before s.ranking) (linkings pairs) (position graph ledger s))
+-- links made on a board s up to the first refusal, answered r, lead to the board t: each run that came to s has come to t, and
+-- where s stood and all are granted, t is at the position that the rules lead to
+pub record Plays {B R F : Type 0} (graph : B → Graph) (made : B → Type 0) (ledger : B → Ledger) (fixed : B → F)
+    (before : R → Ranking) (s : Board B R) (pairs : List (ℕ × ℕ)) (r : Result Unit Refused) (t : Board B R) : Type 0 where
+  pub run : (first : Board B R) → Run graph made ledger fixed before first s → Run graph made ledger fixed before first t
+  pub answers : Stands graph made ledger s →
+      let x = position graph ledger s in
+      let order = before s.ranking in
+      Answers (first_refusal order (linkings pairs) x) r
+      (λ _. position graph ledger t ≡ played_by order (linkings pairs) x)
 
 -- of a board that stands and has that many loads, the partners of the first n
-abbrev pub Reads : {B R : Type 0} → (B → Graph) → (B → Type 0) → (B → Ledger) → Board B R → ℕ → Result (List (Option ℕ)) Refused → Type 0
-Reads graph made ledger s n r = Stands graph made ledger s → n ≤ (graph s.book).size → r ≡ Ok (listed (partners_of s.tables) 0 n)
+abbrev pub Reads : {B R : Type 0} → (B → Graph) → (B → Type 0) → (B → Ledger) → Board B R → ℕ →
+    Result (List (Option ℕ)) Refused → Type 0
+Reads graph made ledger s n r =
+    Stands graph made ledger s → n ≤ (graph s.book).size → r ≡ Ok (listed (partners_of s.tables) 0 n)

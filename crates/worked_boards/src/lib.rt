@@ -21,7 +21,10 @@ fn link_all<B: Book, R: Ranking>(
     board: &mut Board<B, R>,
     pairs: &[(usize, usize)],
 ) -> Result<(), Refused>
-    ensures { Plays B.Links.graph B.Links.made B.Book.ledger R.Ranking.before board.old pairs.now result board.new }
+    ensures {
+        Plays B.Links.graph B.Links.made B.Book.ledger B.Book.fixed R.Ranking.before
+        board.old pairs.now result board.new
+    }
 {
     for &(a, b) in pairs {
         board.link(a, b)?;

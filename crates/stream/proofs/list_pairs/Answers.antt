@@ -3,8 +3,9 @@ use Rattle.std.specs.Result.{result_unwrap_or}
 use Rattle.std.proofs.lemmas.List.{length-take-le}
 use Rattle.graph.specs.Pairs.{below_partner, pairs}
 use Rattle.board.specs.Boards.{position, Stands}
+use Rattle.board.proofs.Told.{told_partner}
 use Rattle.tables.specs.Views.{partners_of}
-use Rattle.stream.proofs.Listing.{Listed, book_size, all_fit, at_most_eight, listed_more, lists_written, asked_partner}
+use Rattle.stream.proofs.Listing.{Listed, book_size, all_fit, at_most_eight, listed_more, lists_written}
 use Rattle.stream.proofs.Stepping.{fits}
 use Rattle.stream.specs.Pairs.{lower_line}
 use Rattle.stream.proofs.list_pairs.Goals as goal
@@ -29,7 +30,7 @@ loop-a-preserved g c =
     record { within = omega arith; listed = λ stood.
         let size = book_size g.B.Links.graph g.B.Links.made c.book.result.now c.args.board.now.book c.book.ensures c.size.result c.size.ensures.value stood.book_made in
         let inside : a < (g.B.Links.graph c.args.board.now.book).size = omega (arith, size) in
-        let asked = asked_partner c.args.board.now stood a inside c.partner.result c.partner.ensures.answers in
+        let asked = told_partner c.args.board.now c.args.board.now stood a inside c.partner.result c.partner.ensures.answers in
         let is : partner ≡ partners_of c.args.board.now.tables a = c.unwrap_or-partner.ensures ∙ ap (λ r. result_unwrap_or r None) asked in
         listed_more (partners_of c.args.board.now.tables) c.loop-a.lines c.write_lower.new.out (lower_line a partner) (drop c.in_ok-written.field-0 (take (2048 - c.loop-a.written) (drop c.loop-a.written c.loop-a.lines)))
         a c.loop-a.written c.in_ok-written.field-0 (2048 - c.loop-a.written) (c.loop-a.invariant.listed stood) (omega (arith, c.unwrap_or-partner.array_long))

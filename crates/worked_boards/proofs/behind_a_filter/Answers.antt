@@ -1,11 +1,11 @@
-use Rattle.std.proofs.Common.{Ok, Err, refl, ap, ◌∙◌}
+use Rattle.std.proofs.Common.{◌≡◌, Ok, Err, refl, ap, ◌∙◌}
 use Rattle.graph.specs.Graph.{edgeless, added}
 use Rattle.links.specs.Books.{lowered}
 use Rattle.links.specs.declared.refusal.Layer.TheVariants.{Book}
 use Rattle.links.specs.declared.refusal.Refusal.TheVariants.{Barred, NotLinked}
 use Rattle.filter.specs.Classes.{filtered, filtered_ledger}
 use Rattle.rules.specs.Boards.{fresh_ledger}
-use Rattle.rules.specs.Calls.{link, unlink, ask_free_links, reason, free_links_of}
+use Rattle.rules.specs.Calls.{link, unlink, ask_free_links, reason}
 use Rattle.worked_boards.proofs.Brought.{add_answers, behind}
 use Rattle.worked_boards.proofs.HiddenLinks.{hides, brought, allowed, start, after_linking, after_unlinking, played}
 use Rattle.worked_boards.proofs.Positions.{at_opening, call_answers, at_call, told_at, read_at}
@@ -34,10 +34,10 @@ returns c =
     let refused = at_call first second start opened (link 0 1) c.link.result c.link.ensures in
     let third = c.unlink.new.self in
     let kept = at_call second third after_linking refused (unlink 0 1) c.unlink.result c.unlink.ensures in
-    let linking = refused_with (reason start (link 0 1)) c.link.result (record { refusal = Barred; layer = Book })
+    let linking = refused_with (λ v. v ≡ tt) (reason start (link 0 1)) c.link.result (record { refusal = Barred; layer = Book })
     (call_answers first second start opened (link 0 1) c.link.result c.link.ensures) played.barred in
-    let unlinking = refused_with (reason after_linking (unlink 0 1)) c.unlink.result (record { refusal = NotLinked; layer = Book })
+    let unlinking = refused_with (λ v. v ≡ tt) (reason after_linking (unlink 0 1)) c.unlink.result (record { refusal = NotLinked; layer = Book })
     (call_answers second third after_linking refused (unlink 0 1) c.unlink.result c.unlink.ensures) played.not_linked in
     let partners = read_at third after_unlinking kept 3 c.partners.result played.inside c.partners.ensures ∙ ap Ok played.partners in
-    let free_links = told_at third after_unlinking kept (ask_free_links 1) c.free_links.result (λ x. free_links_of x 1) played.asked c.free_links.ensures ∙ ap Ok played.free_links in
+    let free_links = told_at third third after_unlinking kept (ask_free_links 1) c.free_links.result played.asked c.free_links.ensures ∙ ap Ok played.free_links in
     λ i. Ok (record { linking = linking i; unlinking = unlinking i; partners = partners i; free_links = free_links i })

@@ -6,5 +6,5 @@ use Rattle.worked_boards.proofs.link_all.Given as goal
 
 abbrev pub invariant-loop-a : goal.invariant-loop-a
 invariant-loop-a g l = (r : Result Unit Refused) (t : Board _ _) →
-    Plays g.B.Links.graph g.B.Links.made g.B.Book.ledger g.R.Ranking.before l.board (drop l.a-index l.pairs) r t →
-    Plays g.B.Links.graph g.B.Links.made g.B.Book.ledger g.R.Ranking.before l.initial.board l.pairs r t
+    Plays g.B.Links.graph g.B.Links.made g.B.Book.ledger g.B.Book.fixed g.R.Ranking.before l.board (drop l.a-index l.pairs) r t →
+    Plays g.B.Links.graph g.B.Links.made g.B.Book.ledger g.B.Book.fixed g.R.Ranking.before l.initial.board l.pairs r t

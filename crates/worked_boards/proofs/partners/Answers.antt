@@ -1,18 +1,18 @@
 use Rattle.std.proofs.Common.{◌≡◌, ℕ, ◌<◌, ◌≤◌, length, None, Ok, sym, refl, ap, ◌∙◌, arith, length-set}
 use lib.ListN.{length-replicate}
 use Rattle.std.proofs.lemmas.List.{take_all}
-use Rattle.std.proofs.lemmas.Bool.{cond-false, lt-leb}
 use Rattle.rules.specs.Boards.{listed}
+use Rattle.board.proofs.Told.{told_partner}
 use Rattle.tables.specs.Views.{partners_of}
 use Rattle.worked_boards.proofs.Played.{read_more}
-use Rattle.worked_boards.proofs.Refusals.{not_refused}
+use Rattle.worked_boards.proofs.Refusals.{err_granted}
 use Rattle.worked_boards.proofs.partners.Goals as goal
 
 pub returns-in_err-partner : goal.returns-in_err-partner
 returns-in_err-partner g c = λ stands inside.
     let n = (g.B.Links.graph c.args.board.now.book).size in
     let within : c.loop-a.a < n = omega arith in
-    absurd (not_refused c.in_err-partner.field-0.0 (cond-false _ _ _ (lt-leb n c.loop-a.a within)) (c.in_err-partner.ensures stands))
+    absurd (err_granted c.in_err-partner.field-0.0 _ (told_partner c.args.board.now c.args.board.now stands c.loop-a.a within _ c.in_err-partner.ensures.answers))
 
 pub loop-a-init : goal.loop-a-init
 loop-a-init g c = (length-replicate g.row.N None, λ _. refl)
@@ -23,7 +23,7 @@ loop-a-preserved g c =
     let long = c.loop-a.invariant.0 in
     let room : a < length c.loop-a.partner-items = omega arith in (
       length-set c.loop-a.partner-items a _ ∙ long,
-      λ stands. read_more (partners_of c.args.board.now.tables) c.loop-a.partner-items a _ room (c.loop-a.invariant.1 stands) (c.in_ok-partner.ensures stands).1,
+      λ stands. read_more (partners_of c.args.board.now.tables) c.loop-a.partner-items a _ room (c.loop-a.invariant.1 stands) (c.in_ok-partner.ensures.answers.partners stands).value,
     )
 
 pub returns : goal.returns
