@@ -6,6 +6,7 @@ mod changes;
 mod choices;
 mod load_set;
 mod questions;
+/// The walk over the free loads that a load is linked to.
 pub mod walk;
 
 /// What is kept of a load: its partner, how many links it has, and how many of them lead to free
@@ -27,9 +28,9 @@ pub struct LoadSet {
 ///
 /// The tables do not hold the links. They follow them: `link` and `unlink` are told of each link,
 /// and the calls that change partners are lent the links and walk over those of the loads that
-/// become free or are no longer. The questions then cost a look at one record or one set, and none
-/// walks over links. A number that is not below 256 is free and has no links; a call that is to
-/// change one does nothing.
+/// become free or are no longer. A question about one load then costs a look at its record or its
+/// set. A number that is not below 256 is free and has no links; a call that is to change one does
+/// nothing.
 #[derive(Drop)]
 pub struct Tables {
     records: [Record; 256],
