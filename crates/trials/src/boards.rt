@@ -1,7 +1,7 @@
 // Random boards, each played beside the reference.
 use crate::comparing::{same, same_board, same_book};
 use crate::scripts;
-use crate::setting::{BOOKS, BookKind, Kind, RANKINGS, RankingKind, Setting};
+use crate::setting::{BOOKS, BookKind, Classes, Filters, Kind, RANKINGS, RankingKind, Setting};
 use crate::trial::Trial;
 use anyhow::{Context, Result};
 use board::Board;
@@ -104,7 +104,21 @@ impl Trial {
         same_book(book, plain)
     }
 
-    // Brings links to a book without links, and plays a board on it.
+    // Puts a filter on a book, bars the same pairs in the reference's, and brings links through it.
+    fn filter<B: Book + Drop>(
+        &mut self,
+        setting: &Setting,
+        classes: &Classes,
+        book: B,
+        plain: &mut PlainBook,
+    ) -> Result<ClassFilter<B>> {
+        let mut filtered = ClassFilter::new(book, &classes.of_loads, classes.bars);
+        plain.bar_classes(&classes.of_loads, classes.bars)?;
+        self.bring(setting, &mut filtered, plain)?;
+        Ok(filtered)
+    }
+
+    // Brings links to a book without links, and plays a board on it, or on the filters that stand on it.
     fn play_on<B: Book + Drop>(
         &mut self,
         setting: &Setting,
@@ -113,13 +127,19 @@ impl Trial {
         mut plain: PlainBook,
     ) -> Result<()> {
         self.bring(setting, &mut book, &mut plain)?;
-        if !kind.filtered {
-            return self.play_book(setting, kind.ranking, book, plain);
+        self.counts.filters(kind.filters);
+        match kind.filters {
+            Filters::None => self.play_book(setting, kind.ranking, book, plain),
+            Filters::One => {
+                let lower = self.filter(setting, &setting.lower, book, &mut plain)?;
+                self.play_book(setting, kind.ranking, lower, plain)
+            }
+            Filters::Two => {
+                let lower = self.filter(setting, &setting.lower, book, &mut plain)?;
+                let upper = self.filter(setting, &setting.upper, lower, &mut plain)?;
+                self.play_book(setting, kind.ranking, upper, plain)
+            }
         }
-        let mut filtered = ClassFilter::new(book, &setting.classes, setting.bars);
-        plain.bar_classes(&setting.classes, setting.bars)?;
-        self.bring(setting, &mut filtered, &mut plain)?;
-        self.play_book(setting, kind.ranking, filtered, plain)
     }
 
     // Makes a book, in memory that is not clear, and plays a board on it.
@@ -142,19 +162,19 @@ impl Trial {
         }
     }
 
-    // The same on every kind of book, by every kind of ranking.
+    // The same on every kind of book, by every kind of ranking, without filters and with one or two.
     fn play_everywhere(&mut self, setting: &Setting) -> Result<()> {
         for book in BOOKS {
-            for filtered in [false, true] {
-                for ranking in RANKINGS {
+            for ranking in RANKINGS {
+                let some = self.random.pick(&[Filters::One, Filters::Two]);
+                for filters in [Filters::None, some.unwrap_or(Filters::Two)] {
                     let kind = Kind {
                         book,
-                        filtered,
+                        filters,
                         ranking,
                     };
-                    self.play_setting(setting, kind).context(format_args!(
-                        "{book:?}, filtered: {filtered}, {ranking:?}"
-                    ))?;
+                    self.play_setting(setting, kind)
+                        .context(format_args!("{kind:?}"))?;
                 }
             }
         }

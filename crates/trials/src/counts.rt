@@ -1,4 +1,5 @@
 // What the trials saw.
+use crate::setting::Filters;
 use anyhow::{Result, ensure};
 use links::Refused;
 use reference::claims::Finding;
@@ -17,6 +18,8 @@ pub struct FindingCounts {
 #[derive(Clone, Copy)]
 pub struct Counts {
     boards: u64,
+    over_one_filter: u64,
+    over_two_filters: u64,
     calls: u64,
     repairs: RepairCounts,
     findings: FindingCounts,
@@ -33,6 +36,8 @@ impl Counts {
     pub fn new() -> Counts {
         Counts {
             boards: 0,
+            over_one_filter: 0,
+            over_two_filters: 0,
             calls: 0,
             repairs: RepairCounts::NONE,
             findings: FindingCounts {
@@ -48,6 +53,15 @@ impl Counts {
 
     pub fn call(&mut self) {
         count(&mut self.calls);
+    }
+
+    // On how many filters a board stands.
+    pub fn filters(&mut self, filters: Filters) {
+        match filters {
+            Filters::None => {}
+            Filters::One => count(&mut self.over_one_filter),
+            Filters::Two => count(&mut self.over_two_filters),
+        }
     }
 
     // A board that was played to its end, and what its repairs did.
@@ -82,6 +96,12 @@ impl Counts {
     // Prints how often each kind came, and fails where one never did.
     pub fn report(&self, rt: &impl Print) -> Result<()> {
         report_line(rt, "boards", self.boards)?;
+        report_line(rt, "boards over a filter", self.over_one_filter)?;
+        report_line(
+            rt,
+            "boards over a filter over a filter",
+            self.over_two_filters,
+        )?;
         report_line(rt, "calls", self.calls)?;
         report_line(rt, "pairs matched", self.repairs.matched)?;
         report_line(rt, "paths augmented", self.repairs.augmented)?;

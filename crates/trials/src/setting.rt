@@ -18,18 +18,32 @@ pub enum RankingKind {
     ByDetour,
 }
 
+// How many filters stand on the book, one on the other.
+#[derive(Clone, Copy, PartialEq, Eq, Debug)]
+pub enum Filters {
+    None,
+    One,
+    Two,
+}
+
 // What a board stands on.
-#[derive(Clone, Copy)]
+#[derive(Clone, Copy, Debug)]
 pub struct Kind {
     pub book: BookKind,
-    // whether a filter of classes stands on the book
-    pub filtered: bool,
+    pub filters: Filters,
     pub ranking: RankingKind,
 }
 
 pub const BOOKS: [BookKind; 2] = [BookKind::Matrix, BookKind::Rows];
 
 pub const RANKINGS: [RankingKind; 2] = [RankingKind::ByNumber, RankingKind::ByDetour];
+
+// What a filter is made with.
+#[derive(Drop)]
+pub struct Classes {
+    pub of_loads: Vec<u8>,
+    pub bars: [u8; 8],
+}
 
 // A board, the calls that are made on it first, and how many are drawn at random after them.
 #[derive(Drop)]
@@ -43,17 +57,10 @@ pub struct Setting {
     pub calls: usize,
     // how many of the links in a hundred are of the highest load
     pub hub_percent: usize,
-    pub classes: Vec<u8>,
-    pub bars: [u8; 8],
+    // those of the filter on the book, and of the filter on that
+    pub lower: Classes,
+    pub upper: Classes,
     pub places: Vec<Place>,
-}
-
-fn draw_classes(alloc: Global, random: &mut Random, size: usize) -> Result<Vec<u8>, AllocError> {
-    let mut classes = Vec::new(alloc);
-    for _ in 0..random.below(size.saturating_add(2)) {
-        classes.push(random.byte() % 10)?;
-    }
-    Ok(classes)
 }
 
 // One coordinate: mostly small, so that many detours are equal, and at times at an end of the range.
@@ -85,6 +92,19 @@ fn draw_bars(random: &mut Random) -> [u8; 8] {
     bars
 }
 
+fn draw_classes(
+    alloc: Global,
+    random: &mut Random,
+    size: usize,
+    bars: [u8; 8],
+) -> Result<Classes, AllocError> {
+    let mut of_loads = Vec::new(alloc);
+    for _ in 0..random.below(size.saturating_add(2)) {
+        of_loads.push(random.byte() % 10)?;
+    }
+    Ok(Classes { of_loads, bars })
+}
+
 // Fewer calls on a large board, on which each takes long to compare.
 fn draw_calls(random: &mut Random, size: usize) -> usize {
     if size > 100 {
@@ -111,13 +131,14 @@ impl Setting {
             script,
             calls: 0,
             hub_percent: 0,
-            classes: draw_classes(alloc, random, size)?,
-            bars: [0; 8],
+            lower: draw_classes(alloc, random, size, [0; 8])?,
+            upper: draw_classes(alloc, random, size, [0; 8])?,
             places: draw_places(alloc, random, size)?,
         })
     }
 
     pub fn draw(alloc: Global, random: &mut Random, size: usize) -> Result<Setting, AllocError> {
+        let (lower, upper) = (draw_bars(random), draw_bars(random));
         Ok(Setting {
             size,
             row_limit: random.between(size / 2, size.saturating_sub(1)).max(1),
@@ -126,8 +147,8 @@ impl Setting {
             script: Vec::new(alloc),
             calls: draw_calls(random, size),
             hub_percent: random.below(80),
-            classes: draw_classes(alloc, random, size)?,
-            bars: draw_bars(random),
+            lower: draw_classes(alloc, random, size, lower)?,
+            upper: draw_classes(alloc, random, size, upper)?,
             places: draw_places(alloc, random, size)?,
         })
     }
