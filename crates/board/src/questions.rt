@@ -1,4 +1,4 @@
-// What can be asked of a board. Each question looks at the record or the set of one load, or at a count that is kept.
+// What can be asked of a board.
 ghost use Rattle.std.specs.Prelude.{◌≡◌, ◌<◌, IfOk, IfSome};
 ghost use Rattle.rules.specs.Calls.{ask_partner, ask_free_links, ask_next_free, ask_pairs};
 ghost use Rattle.board.specs.Boards.{Steps};
