@@ -1,2 +1,3 @@
 mod Played
 mod Filtered
+mod LinkLists
