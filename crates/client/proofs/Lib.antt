@@ -1,2 +1,5 @@
 mod Played
 mod Filtered
+mod Three
+mod Words
+mod Numbers

@@ -6,6 +6,8 @@ ghost use Rattle.links.specs.Books.{adding};
 ghost use Rattle.links.specs.Refusals.{Answers, Kept};
 ghost use Rattle.client.specs.Answers.{GrantedThenRefused};
 
+pub mod memory;
+
 use books::bit_matrix::BitMatrix;
 use filter::ClassFilter;
 use links::{Book, Links, Refused};
