@@ -4,7 +4,7 @@ use lib.Bits.{bit_and, bit_or}
 use lib.Count.{count_trailing_zeros, ones, ones_in, ones_cat}
 use Rattle.std.specs.Int.{bit_at}
 use Rattle.std.proofs.lemmas.Nat.{and_le_l, pow_pos, shr_split, div_below}
-use Rattle.std.proofs.lemmas.Nat.Bits.{shr_and_one, bit_at-lt, bit_at-zero, bit_at_above, bit_at_and, bit_at_cat_low, bit_at_set_same, bit_at_set_other, bit_at_clear_same, bit_at_clear_other, bit_at_mask_inside, bit_at_mask_below, bit_at-trailing_zeros, ones_shl}
+use Rattle.std.proofs.lemmas.Nat.Bits.{shr_and_one, bit_at-lt, bit_at-zero, bit_at_above, bit_at_and, bit_at_cat_low, bit_at_set_same, bit_at_set_other, bit_at_clear_same, bit_at_clear_other, bit_at_mask_inside, bit_at_mask_below, bit_at-trailing_zeros, ones_shl, same_from_bits_below}
 use Rattle.std.proofs.lemmas.Bool.{cases_eq, cases_lt}
 use Rattle.std.proofs.lemmas.Bool.Decides.{nat_tests}
 use Rattle.graph.specs.Graph.{First, count}
@@ -128,3 +128,13 @@ ones_count (suc k) w fits =
     ∙ ones_cat k (w / 2 ^ k) (w % 2 ^ k) low
     ∙ ap₂ (λ (x y : ℕ). x + y) (digit_ones (w / 2 ^ k) top) (ones_count k (w % 2 ^ k) low ∙ count_ext k (bit (w % 2 ^ k)) (bit w) (λ j l. ap is_one (sym (bit_at_cat_low (w / 2 ^ k) k (w % 2 ^ k) j l) ∙ ap (λ (x : ℕ). bit_at x j) (shr_split w k))))
     ∙ add_comm (cond (eqb (w / 2 ^ k % 2) 1) 1 0) (count k (bit w))
+
+-- ---- a word by its bits
+
+pub same_word : (v w : ℕ) → v < 2 ^ 64 → w < 2 ^ 64 → ((j : ℕ) → j < 64 → bit v j ≡ bit w j) → v ≡ w
+unfolding bit
+same_word v w fits-v fits-w same =
+    same_from_bits_below 64 v w fits-v fits-w (λ j l. same_digit (bit_at v j) (bit_at w j) (bit_at-lt v j) (bit_at-lt w j) (same j l))
+  where
+    same_digit : (x y : ℕ) → x < 2 → y < 2 → eqb x 1 ≡ eqb y 1 → x ≡ y
+    same_digit x y l m e = grind (arith, nat_tests)

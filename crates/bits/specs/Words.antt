@@ -10,4 +10,6 @@ member words b = bit (slice_index words (b / 64)) (b % 64)
 -- the smallest member at or above `from` of those that a usize can name, if there is one
 abbrev pub NextNamed : List ℕ → ℕ → Option ℕ → Type 0
 NextNamed words from r =
-    MatchOption r ((b : ℕ) → from ≤ b → b < 2 ^ 64 → member words b ≡ false) (λ k. First (member words) from k)
+    MatchOption r
+    ((b : ℕ) → from ≤ b → b < 2 ^ 64 → member words b ≡ false)
+    (λ k. First (member words) from k)

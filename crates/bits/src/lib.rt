@@ -1,5 +1,5 @@
-// Single bits of a word, and words in a row as a set of numbers. A place is taken modulo 64, as a row of words has it: load b is
-// bit b mod 64 of its word.
+// Single bits of a word, and words in a row as a set of numbers. A place is taken modulo 64, as a
+// row of words has it: load b is bit b mod 64 of its word.
 #![tactic(auto)]
 
 ghost use Rattle.std.specs.Prelude.{◌≡◌, ℕ, ◌%◌, ◌≤◌, ◌<◌, ◌*◌, ◌^◌, not, ◌&&◌, ◌||◌, ◌==◌, if◌then◌else◌, nat_eq, length, IfSome};
@@ -7,28 +7,29 @@ ghost use Rattle.graph.specs.Graph.{count, Next};
 ghost use Rattle.bits.specs.Bit.{bit, NextBit};
 ghost use Rattle.bits.specs.Words.{member, NextNamed};
 
-// Whether the bit at `place` is 1.
+/// Whether the bit at `place`, modulo 64, is 1.
 pub fn bit_of(word: u64, place: usize) -> bool
     ensures { result ≡ bit word (place % 64) }
 {
     (word >> (place % 64)) & 1 == 1
 }
 
-// The word with the bit at `place` set to 1.
+/// The word with the bit at `place`, modulo 64, set to 1.
 pub fn with_bit(word: u64, place: usize) -> u64
     ensures { (j : ℕ) → bit result j ≡ (bit word j || place % 64 == j) }
 {
     word | (1 << (place % 64))
 }
 
-// The word with the bit at `place` set to 0.
+/// The word with the bit at `place`, modulo 64, set to 0.
 pub fn without_bit(word: u64, place: usize) -> u64
     ensures { (j : ℕ) → bit result j ≡ (bit word j && not (place % 64 == j)) }
 {
     word & !(1 << (place % 64))
 }
 
-// The lowest bit at or above `from` that is 1.
+/// The place of the lowest bit at or above `from` that is 1; `None` where there is none, as from
+/// 64 on.
 pub fn next_bit(word: u64, from: usize) -> Option<usize>
     ensures { NextBit word from result }
 {
@@ -42,7 +43,7 @@ pub fn next_bit(word: u64, from: usize) -> Option<usize>
     Some(rest.trailing_zeros() as usize)
 }
 
-// How many bits are 1.
+/// How many bits are 1, 0 to 64.
 pub fn count_bits(word: u64) -> usize
     ensures value { result ≡ count 64 (bit word) }
     ensures bound { result ≤ 64 }
@@ -50,7 +51,7 @@ pub fn count_bits(word: u64) -> usize
     word.count_ones() as usize
 }
 
-// The word with the bit at `place` set to `on`.
+/// The word with the bit at `place`, modulo 64, set to `on`.
 pub fn put_bit(word: u64, place: usize, on: bool) -> u64
     ensures { (j : ℕ) → bit result j ≡ (if nat_eq (place % 64) j then on else bit word j) }
 {
@@ -64,8 +65,9 @@ pub fn put_bit(word: u64, place: usize, on: bool) -> u64
 // How many words have all the numbers that a usize can name.
 const NAMED_WORDS: usize = 1 << 58;
 
-/// The smallest member, at or above `from`, of the set that a row of words is; of a row so long that a usize cannot name all
-/// its numbers, the smallest that it can. Costs a look at each word up to the member.
+/// The smallest member, at or above `from`, of the set that a row of words is; `None` where there
+/// is none. Of a row so long that a usize cannot name all its numbers, those that it can are
+/// searched. Reads each word from that of `from` to that of the member.
 pub fn next_member(words: &[u64], from: usize) -> Option<usize>
     ensures named { NextNamed words.now from result }
     ensures next { length words.now ≤ 2 ^ 58 → Next (member words.now) from result }

@@ -108,7 +108,8 @@ fresh n limit =
 abbrev pub Fresh : ℕ → ℕ → BitMatrix → Type 0
 Fresh n limit m = Stands matrix_graph MatrixMade matrix_ledger m (edgeless n) (fresh n limit)
 
--- what is made in memory that held `before`: a matrix, or, where there is a reason to refuse it, a book of no loads
+-- what is made in memory that held `before`: a matrix, or, where there is a reason to refuse it, a
+-- book of no loads
 abbrev pub Making : Option Reason → ℕ → ℕ → List ℕ → BitMatrix → Type 0
 Making None n limit before m = Fresh n limit m × Cleared (all_words n) before m.words.now
 Making (Some reason) n limit before m = Fresh 0 0 m × (m.words.now ≡ before)

@@ -10,7 +10,10 @@ use links::{
     check_size,
 };
 
-// With w = size / 64 rounded up, load b is bit b mod 64 of word a × w + b / 64, for each link in both directions.
+/// A book of links in words that the caller lends, a bit for each ordered pair of loads: with w
+/// words to a row, size / 64 rounded up, load b is bit b mod 64 of word a × w + b / 64. A link is
+/// there in both directions, and the bits of no load are 0. A load may be linked to every other,
+/// and no pair is barred. A made matrix never refuses because a load is full (9).
 #[derive(Drop)]
 pub struct BitMatrix<'a> {
     // narrow, so that no index of a word overflows
@@ -27,7 +30,9 @@ fn row_words(size: usize) -> usize
 }
 
 impl<'a> BitMatrix<'a> {
-    // Whether a matrix of `size` loads and at most `limit` links can be made in these words.
+    /// Whether a matrix of `size` loads and at most `limit` links can be made in these words. The
+    /// book refuses a size that is not 1 to 256 with 1, then a limit that is not 1 to 32,640 with
+    /// 2, then fewer words than size × w with 3.
     pub fn check(size: usize, limit: usize, words: &[u64]) -> Result<(), Refused>
         ensures { Answers (checking size limit (length words.now)) result (λ _. Unit {0}) }
     {
@@ -39,10 +44,12 @@ impl<'a> BitMatrix<'a> {
         Ok(())
     }
 
-    // Makes a book with no links. Where the check would refuse, it has no loads and the words stay as they are.
+    /// Makes a book with no links. Clears the first size × w words, and writes no other. Where
+    /// `check` would refuse, the book has no loads and limit 0, and the words stay as they are.
     pub fn new(size: usize, limit: usize, words: &'a mut [u64]) -> BitMatrix<'a>
         ensures made { MatrixMade result }
-        ensures making { Making (checking size limit (length words.old)) size limit words.old result }
+        ensures making { Making (checking size limit (length words.old))
+            size limit words.old result }
         ensures lender { result.words.ghost_name ≡ words.entry.ghost_name }
     {
         match BitMatrix::check(size, limit, words) {
@@ -81,13 +88,13 @@ impl BitMatrix<'_> {
         &self.words[start..end]
     }
 
-    // Puts the bit of load b in row a to `on`, where these are loads and there is a word for it. Nothing else is written.
+    // Puts the bit of load b in row a to `on`, where these are loads and there is a word for it.
+    // Nothing else is written.
     fn put(&mut self, a: usize, b: usize, on: bool)
         ensures rest { self.new ≡ rewritten self.old self.old.tally self.new.words.now }
-        ensures written {
-            let m = self.old in
-            Written on (λ k j. held m a b k && is_place m.size a b k j) m.words.now self.new.words.now
-        }
+        ensures written { let m = self.old in
+            Written on (λ k j. held m a b k && is_place m.size a b k j)
+            m.words.now self.new.words.now }
         ensures stays { matrix_fixed self.new ≡ matrix_fixed self.old }
     {
         let size = usize::from(self.size);
@@ -102,10 +109,9 @@ impl BitMatrix<'_> {
     // The same for the two bits of the link of a and b.
     fn put_link(&mut self, a: usize, b: usize, on: bool)
         ensures rest { self.new ≡ rewritten self.old self.old.tally self.new.words.now }
-        ensures written {
-            let m = self.old in
-            Written on (λ k j. held m a b k && is_link_place m.size a b k j) m.words.now self.new.words.now
-        }
+        ensures written { let m = self.old in
+            Written on (λ k j. held m a b k && is_link_place m.size a b k j)
+            m.words.now self.new.words.now }
         ensures stays { matrix_fixed self.new ≡ matrix_fixed self.old }
     {
         self.put(a, b, on);
@@ -122,14 +128,18 @@ impl Links for BitMatrix<'_> {
         usize::from(self.size)
     }
 
+    /// Whether a and b are linked. Reads one word.
     fn linked(&self, a: usize, b: usize) -> bool {
         self.row(a).get(b / 64).is_some_and(|word| bit_of(*word, b))
     }
 
+    /// The number of links of a. Reads the w words of its row.
     fn degree(&self, a: usize) -> usize {
         self.row(a).iter().map(|word| count_bits(*word)).sum()
     }
 
+    /// The smallest load at or above `from` that is linked to a. Reads at most the w words of its
+    /// row.
     fn next_linked(&self, a: usize, from: usize) -> Option<usize> {
         next_member(self.row(a), from)
     }
@@ -150,10 +160,13 @@ impl Book for BitMatrix<'_> {
         self.tally.limit
     }
 
+    /// No pair is barred.
     fn is_barred(&self, _a: usize, _b: usize) -> bool {
         false
     }
 
+    /// How many more links a may take: the loads that it is not linked to. Reads the w words of its
+    /// row.
     fn spare(&self, a: usize) -> usize {
         let size = usize::from(self.size);
         if a >= size {
@@ -166,9 +179,12 @@ impl Book for BitMatrix<'_> {
         self.tally.room()
     }
 
+    /// Links a and b. The book refuses with 4, 5, 6 or 10, in this order, and stays as it was.
+    /// Reads one word, and writes two.
     fn add(&mut self, a: usize, b: usize) -> Result<(), Refused>
         ensures book { Adds matrix_graph MatrixMade matrix_ledger self.old a b result self.new }
-        ensures words { MatrixMade self.old → is_ok result ≡ true → Written true (is_link_place self.old.size a b) self.old.words.now self.new.words.now }
+        ensures words { MatrixMade self.old → is_ok result ≡ true →
+            Written true (is_link_place self.old.size a b) self.old.words.now self.new.words.now }
         ensures stays { matrix_fixed self.new ≡ matrix_fixed self.old }
     {
         check_open(self, a, b, false)?;
@@ -179,9 +195,12 @@ impl Book for BitMatrix<'_> {
         Ok(())
     }
 
+    /// Unlinks a and b. The book refuses with 4, 5 or 7, in this order, and stays as it was. Reads
+    /// one word, and writes two.
     fn remove(&mut self, a: usize, b: usize) -> Result<(), Refused>
         ensures book { Removes matrix_graph MatrixMade matrix_ledger self.old a b result self.new }
-        ensures words { MatrixMade self.old → is_ok result ≡ true → Written false (is_link_place self.old.size a b) self.old.words.now self.new.words.now }
+        ensures words { MatrixMade self.old → is_ok result ≡ true →
+            Written false (is_link_place self.old.size a b) self.old.words.now self.new.words.now }
         ensures stays { matrix_fixed self.new ≡ matrix_fixed self.old }
     {
         check_remove(self, a, b)?;

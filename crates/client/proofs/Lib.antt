@@ -1,3 +1,6 @@
 mod Played
 mod Filtered
 mod LinkLists
+mod Three
+mod Words
+mod Numbers

@@ -6,23 +6,29 @@ ghost use Rattle.links.specs.Books.{adding};
 ghost use Rattle.links.specs.Refusals.{Answers, Kept};
 ghost use Rattle.client.specs.Answers.{GrantedThenRefused};
 
+/// What a link list answers, and an audit over it.
 pub mod lists;
+/// What the caller of a book finds in the memory that it lent.
+pub mod memory;
 
 use books::bit_matrix::BitMatrix;
 use filter::ClassFilter;
 use links::{Book, Links, Refused};
 use rows::SortedRows;
 
-// Adds the link of a and b to any book, and asks for it the other way round: where the book does not refuse, it is there.
+/// Links a and b in any book, and asks for the link the other way round: where the book does not
+/// refuse, it is there. A refusal is the book's own, and leaves it as it was.
 pub fn add_and_ask<B: Book>(book: &mut B, a: usize, b: usize) -> Result<bool, Refused>
-    ensures answer { B.Links.made book.old → Answers (adding (B.Links.graph book.old) (B.Book.ledger book.old) a b) result (λ there. there ≡ true) }
+    ensures answer { B.Links.made book.old →
+        Answers (adding (B.Links.graph book.old) (B.Book.ledger book.old) a b) result
+        (λ there. there ≡ true) }
     ensures kept { Kept result book.old book.new }
 {
     book.add(a, b)?;
     Ok(book.linked(b, a))
 }
 
-// On a fresh book of each kind the first link is granted and there: on a bit matrix, on rows, and under one filter or two.
+/// On a fresh bit matrix the first link is granted, and there.
 pub fn on_matrix() -> Result<bool, Refused>
     ensures { result ≡ Ok true }
 {
@@ -31,6 +37,7 @@ pub fn on_matrix() -> Result<bool, Refused>
     add_and_ask(&mut book, 0, 1)
 }
 
+/// The same on rows.
 pub fn on_rows() -> Result<bool, Refused>
     ensures { result ≡ Ok true }
 {
@@ -39,6 +46,7 @@ pub fn on_rows() -> Result<bool, Refused>
     add_and_ask(&mut book, 0, 1)
 }
 
+/// The same on a bit matrix under a filter that hides nothing.
 pub fn on_filtered_matrix() -> Result<bool, Refused>
     ensures { result ≡ Ok true }
 {
@@ -48,6 +56,7 @@ pub fn on_filtered_matrix() -> Result<bool, Refused>
     add_and_ask(&mut book, 0, 1)
 }
 
+/// The same on rows under such a filter.
 pub fn on_filtered_rows() -> Result<bool, Refused>
     ensures { result ≡ Ok true }
 {
@@ -57,6 +66,7 @@ pub fn on_filtered_rows() -> Result<bool, Refused>
     add_and_ask(&mut book, 0, 1)
 }
 
+/// The same under two such filters.
 pub fn on_two_filters() -> Result<bool, Refused>
     ensures { result ≡ Ok true }
 {
@@ -67,7 +77,7 @@ pub fn on_two_filters() -> Result<bool, Refused>
     add_and_ask(&mut book, 0, 1)
 }
 
-// A bit matrix of four loads with limit 1 takes one link, and has no room for another.
+/// A bit matrix of four loads with limit 1 takes one link, and has no room for another (10).
 pub fn full_matrix() -> (Result<(), Refused>, Result<(), Refused>)
     ensures { GrantedThenRefused 10 result.0 result.1 }
 {
@@ -78,7 +88,7 @@ pub fn full_matrix() -> (Result<(), Refused>, Result<(), Refused>)
     (first, second)
 }
 
-// Rows of three loads with row limit 1: a load that has one link takes no other.
+/// Rows of three loads with row limit 1: a load that has one link takes no other (9).
 pub fn full_row() -> (Result<(), Refused>, Result<(), Refused>)
     ensures { GrantedThenRefused 9 result.0 result.1 }
 {

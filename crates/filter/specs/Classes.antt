@@ -56,11 +56,16 @@ filter_fixed fixed f = record { classes = f.classes; bars = f.bars; below = fixe
 abbrev pub unless_visible : (ℕ → ℕ → Bool) → ℕ → ℕ → ℕ → Refusal → Option Reason
 unless_visible hid n a b refusal = unless_two_of Book n a b (cond (hid a b) (Some (told (record { refusal = refusal; layer = Book }))) None)
 
-module _ {B : Type 0} (graph : B → Graph) (made : B → Type 0) (ledger : B → Ledger) (s : B) (a b : ℕ) (r : Result Unit Refused) (t : B) where
-  -- where adding the link of a and b is granted, the book below, which was s and is t, has just that link more
+module _
+    {B : Type 0} (graph : B → Graph) (made : B → Type 0) (ledger : B → Ledger)
+    (s : B) (a b : ℕ) (r : Result Unit Refused) (t : B) where
+  -- where adding the link of a and b is granted, the book below, which was s and is t, has just
+  -- that link more
   abbrev pub AddedBelow : Type 0
-  AddedBelow = OnOk r (made s → Stands graph made ledger t (added (graph s) a b) (lowered (ledger s) a b))
+  AddedBelow =
+      OnOk r (made s → Stands graph made ledger t (added (graph s) a b) (lowered (ledger s) a b))
 
   -- the same of removing it: just that link less
   abbrev pub RemovedBelow : Type 0
-  RemovedBelow = OnOk r (made s → Stands graph made ledger t (removed (graph s) a b) (raised (ledger s) a b))
+  RemovedBelow =
+      OnOk r (made s → Stands graph made ledger t (removed (graph s) a b) (raised (ledger s) a b))

@@ -6,7 +6,8 @@ use Rattle.links.specs.declared.refusal.Layer.TheVariants.{Book}
 use Rattle.links.specs.declared.refusal.Refused.{Refused}
 use Rattle.links.specs.Refusals.{Reason, Answers, Kept}
 
--- the link limit, the barred pairs, how many more links each load may take (its spare), and how many more the book may (its room)
+-- the link limit, the barred pairs, how many more links each load may take (its spare), and how
+-- many more the book may (its room)
 pub record Ledger : Type 0 where
   pub limit : ℕ
   pub barred : ℕ → ℕ → Bool
@@ -24,11 +25,21 @@ pub record Bounded (g : Graph) (l : Ledger) : Type 0 where
 -- after a link of a and b was added, and after one was removed
 abbrev pub lowered : Ledger → ℕ → ℕ → Ledger
 lowered l a b =
-    record { limit = l.limit; barred = l.barred; spare = λ x. l.spare x - cond (a == x || b == x) 1 0; room = l.room - 1 }
+    record {
+      limit = l.limit;
+      barred = l.barred;
+      spare = λ x. l.spare x - cond (a == x || b == x) 1 0;
+      room = l.room - 1;
+    }
 
 abbrev pub raised : Ledger → ℕ → ℕ → Ledger
 raised l a b =
-    record { limit = l.limit; barred = l.barred; spare = λ x. l.spare x + cond (a == x || b == x) 1 0; room = l.room + 1 }
+    record {
+      limit = l.limit;
+      barred = l.barred;
+      spare = λ x. l.spare x + cond (a == x || b == x) 1 0;
+      room = l.room + 1;
+    }
 
 abbrev pub by : Layer → ℕ → Option Reason
 by layer number = Some (record { number = number; values = []; layer = layer })
@@ -50,12 +61,14 @@ unless_limit = unless_within 32640 (by_book 2)
 
 -- 4: not two loads; 5: the same load twice
 abbrev pub unless_two_of : Layer → ℕ → ℕ → ℕ → Option Reason → Option Reason
-unless_two_of layer size a b otherwise = cond (nat_le size a || nat_le size b) (by layer 4) (cond (a == b) (by layer 5) otherwise)
+unless_two_of layer size a b otherwise =
+    cond (nat_le size a || nat_le size b) (by layer 4) (cond (a == b) (by layer 5) otherwise)
 
 -- the pair is not open. 4, 5: not two loads; 8: barred; 6: linked already
 abbrev pub unless_open : Graph → Bool → ℕ → ℕ → Option Reason → Option Reason
 unless_open g barred a b otherwise =
-    unless_two_of Book g.size a b (cond barred (by_book 8) (cond (g.linked a b) (by_book 6) otherwise))
+    unless_two_of Book g.size a b
+    (cond barred (by_book 8) (cond (g.linked a b) (by_book 6) otherwise))
 
 -- 9: either load has no spare left
 abbrev pub unless_spares : ℕ → ℕ → Option Reason → Option Reason
@@ -65,10 +78,12 @@ unless_spares spare_a spare_b otherwise = cond (spare_a == 0 || spare_b == 0) (b
 abbrev pub unless_room : ℕ → Option Reason → Option Reason
 unless_room room otherwise = cond (room == 0) (by_book 10) otherwise
 
--- the first reason to refuse to add a link of a and b: the pair has to be open, and something left for its link
+-- the first reason to refuse to add a link of a and b: the pair has to be open, and something left
+-- for its link
 abbrev pub adding : Graph → Ledger → ℕ → ℕ → Option Reason
 adding g l a b =
-    unless_open g (l.barred a b) a b (unless_spares (l.spare a) (l.spare b) (unless_room l.room None))
+    unless_open g (l.barred a b) a b
+    (unless_spares (l.spare a) (l.spare b) (unless_room l.room None))
 
 -- the first reason to refuse to remove the link of a and b
 abbrev pub removing : Graph → ℕ → ℕ → Option Reason

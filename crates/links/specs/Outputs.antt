@@ -9,7 +9,8 @@ use Rattle.links.specs.Refusals.{Reason, Answers, Kept}
 abbrev pub unless_fits : List ℕ → List ℕ → Option Reason
 unless_fits written out = cond (nat_lt (length out) (length written)) (by Stream 14) None
 
--- bytes are written at the start of the output and their number answered, or they do not fit; all else stays as it was
+-- bytes are written at the start of the output and their number answered, or they do not fit; all
+-- else stays as it was
 pub record Writes (written before : List ℕ) (r : Result ℕ Refused) (after : List ℕ) : Type 0 where
   pub kept : Kept r before after
   pub answers : Answers (unless_fits written before) r (λ n. (n ≡ length written) × (after ≡ written ++ drop n before))

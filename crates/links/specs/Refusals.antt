@@ -36,7 +36,8 @@ told r = record { number = (meaning r.refusal).0; values = (meaning r.refusal).1
 abbrev pub told_by : Refusal → Layer → Option Reason
 told_by refusal layer = Some (told (record { refusal = refusal; layer = layer }))
 
--- an answer under the first reason to refuse, if there is one: granted with what then holds, or refused for that reason
+-- an answer under the first reason to refuse, if there is one: granted with what then holds, or
+-- refused for that reason
 abbrev pub Answers : {A : Type 0} → Option Reason → Result A Refused → (A → Type 0) → Type 0
 Answers reason (Ok x) Granted = (reason ≡ None) × Granted x
 Answers reason (Err e) Granted = reason ≡ Some (told e)

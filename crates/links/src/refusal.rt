@@ -6,42 +6,43 @@ ghost use Rattle.links.specs.Words.{layer_name, reason_text, refused_text};
 use std::error::Error;
 use std::fmt;
 
-// Why a call is refused. Each case has a number, by which it is known outside.
+/// Why a call is refused. Each case has a number, by which it is known outside.
 #[derive(Clone, Copy, PartialEq, Eq, Debug)]
 pub enum Refusal {
-    // 1: the number of loads is 0 or above 256
+    /// 1: the number of loads is 0 or above 256
     SizeOutOfRange,
-    // 2: the link limit or the row limit is outside its range
+    /// 2: the link limit or the row limit is outside its range
     LimitOutOfRange,
-    // 3: memory is too short, a stream too long, or a table of partners not of the right length
+    /// 3: memory is too short, a stream too long, or a table of partners not of the right length
     WrongLength,
-    // 4: a number is not below the number of loads
+    /// 4: a number is not below the number of loads
     NoSuchLoad,
-    // 5: both loads are the same
+    /// 5: both loads are the same
     SameLoad,
-    // 6: the two are linked already
+    /// 6: the two are linked already
     AlreadyLinked,
-    // 7: the two are not linked
+    /// 7: the two are not linked
     NotLinked,
-    // 8: the pair is barred
+    /// 8: the pair is barred
     Barred,
-    // 9: either load has no spare left
+    /// 9: either load has no spare left
     LoadFull,
-    // 10: the book has no room left
+    /// 10: the book has no room left
     BookFull,
-    // 11: a load without a partner cannot depart
+    /// 11: a load without a partner cannot depart
     NoPartner,
-    // 12: a byte that begins no command
+    /// 12: a byte that begins no command
     UnknownCommand,
-    // 13: the stream ends inside a command
+    /// 13: the stream ends inside a command
     CutShort,
-    // 14: the output is too short
+    /// 14: the output is too short
     OutputTooShort,
-    // 15: the entry of a list with this index breaks its order or its bounds
+    /// 15: the entry of a list with this index breaks its order or its bounds
     BadEntry(usize),
 }
 
 impl Refusal {
+    /// The number by which the refusal is known, 1 to 15.
     pub fn number(self) -> u8
         ensures { result ≡ (meaning self).0 }
     {
@@ -64,7 +65,7 @@ impl Refusal {
         }
     }
 
-    // The answer of a call that is refused for this reason, which the layer found.
+    /// The answer of a call that is refused for this reason, which the layer found.
     pub fn by(self, layer: Layer) -> Refused
         ensures { result ≡ record { refusal = self; layer = layer } }
     {
@@ -74,7 +75,7 @@ impl Refusal {
         }
     }
 
-    // What the refusal means, in words.
+    /// What the refusal means, in words.
     pub fn words(self) -> &'static str
         ensures { result.now ≡ reason_text (meaning self).0 }
     {
@@ -106,15 +107,19 @@ impl fmt::Display for Refusal {
     }
 }
 
-// The layer that found a reason to refuse.
+/// The layer that found a reason to refuse.
 #[derive(Clone, Copy, PartialEq, Eq, Debug)]
 pub enum Layer {
+    /// What reads commands, or writes into memory for their answers.
     Stream,
+    /// The board, with its matching.
     Board,
+    /// The book of links below the board.
     Book,
 }
 
 impl Layer {
+    /// Its name, in small letters.
     pub fn name(self) -> &'static str
         ensures { result.now ≡ layer_name self }
     {
@@ -134,10 +139,12 @@ impl fmt::Display for Layer {
     }
 }
 
-// What a refused call answers: why, and which layer found it.
+/// What a refused call answers.
 #[derive(Clone, Copy, PartialEq, Eq, Debug)]
 pub struct Refused {
+    /// Why the call is refused.
     pub refusal: Refusal,
+    /// The layer that found it.
     pub layer: Layer,
 }
 

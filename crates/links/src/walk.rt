@@ -6,20 +6,20 @@ ghost use Rattle.links.specs.Walks.{Walks, Over};
 
 use crate::Links;
 
-// A set of numbers of which the next at or above another can be asked for. What the answers say holds of every value that
-// came from its making; a call is safe and ends on any other too.
+/// A set of numbers of which the next at or above another can be asked for. What the answers say
+/// holds of every value that came from its making; a call is safe and ends on any other too.
 pub trait Rising {
     ghost member: { Self → ℕ → Bool };
 
     // the value came from its making
     ghost reliable: { Self → Type 0 };
 
-    // The smallest member at or above `from`.
+    /// The smallest member at or above `from`; `None` where there is none.
     fn next_from(&self, from: usize) -> Option<usize>
         ensures { reliable self.now → Next (member self.now) from result };
 }
 
-// The loads that are linked to a load.
+/// The loads that are linked to a load.
 #[derive(Clone, Copy)]
 pub struct LinkedTo<'a, L> {
     links: &'a L,
@@ -36,7 +36,7 @@ impl<L: Links> Rising for LinkedTo<'_, L> {
     }
 }
 
-// The members of a set from a number on and below another, in rising order.
+/// The members of a set from a number on and below another, in rising order.
 #[derive(Drop)]
 pub struct Walk<S> {
     set: S,
@@ -45,6 +45,7 @@ pub struct Walk<S> {
 }
 
 impl<S: Rising> Walk<S> {
+    /// The members of the set at or above `from` and below `end`.
     pub fn new(set: S, from: usize, end: usize) -> Walk<S>
         ensures { result ≡ record { set = set; from = from; end = end } }
     {
@@ -70,7 +71,8 @@ impl<S: Rising + Drop> Iterator for Walk<S> {
     }
 }
 
-// A walk over the loads below `end` that are linked to a.
+/// A walk over the loads below `end` that are linked to a. Each step asks for the next linked load
+/// once.
 pub fn linked_loads<L: Links>(links: &L, a: usize, end: usize) -> Walk<LinkedTo<'_, L>>
     ensures over { Over links.now a end result }
     ensures begins { result.from ≡ 0 }
@@ -78,7 +80,7 @@ pub fn linked_loads<L: Links>(links: &L, a: usize, end: usize) -> Walk<LinkedTo<
     linked_loads_from(links, a, 0, end)
 }
 
-// The same, at or above `from`.
+/// The same, at or above `from`.
 pub fn linked_loads_from<L: Links>(
     links: &L,
     a: usize,

@@ -15,11 +15,16 @@ loads_of_row n d memory a = cond (nat_lt a n) (entries (row_of d memory a)) []
 unfoldable pub with_row : ℕ → List ℕ → ℕ → List ℕ → List ℕ
 with_row d memory a row = take (a * (d + 1)) memory ++ (row ++ drop (a * (d + 1) + (d + 1)) memory)
 
--- row a after b was put in, or the first load not below b taken out, where there is such a row in which that could be done;
--- else the memory is as it was; its length and what lies beyond the row always are
-pub record RowChanged (Able : List ℕ → ℕ → Type 0) (change : List ℕ → ℕ → List ℕ) (d a b : ℕ) (before after : List ℕ) : Type 0 where
-  pub row : a * (d + 1) + (d + 1) ≤ length before → Able (row_of d before a) b → after ≡ with_row d before a (change (row_of d before a) b)
-  pub kept : (a * (d + 1) + (d + 1) ≤ length before → Able (row_of d before a) b → ⊥) → after ≡ before
+-- row a after b was put in, or the first load not below b taken out, where there is such a row in
+-- which that could be done; else the memory is as it was; its length and what lies beyond the row
+-- always are
+pub record RowChanged
+    (Able : List ℕ → ℕ → Type 0) (change : List ℕ → ℕ → List ℕ)
+    (d a b : ℕ) (before after : List ℕ) : Type 0 where
+  pub row : a * (d + 1) + (d + 1) ≤ length before → Able (row_of d before a) b →
+      after ≡ with_row d before a (change (row_of d before a) b)
+  pub kept : (a * (d + 1) + (d + 1) ≤ length before → Able (row_of d before a) b → ⊥) →
+      after ≡ before
   pub same_length : length after ≡ length before
   pub beyond : drop (a * (d + 1) + (d + 1)) after ≡ drop (a * (d + 1) + (d + 1)) before
 
@@ -37,7 +42,8 @@ pub record BothAble (change : Change) (n d a b : ℕ) (memory : List ℕ) : Type
   pub able_a : Able change (row_of d memory a) b
   pub able_b : Able change (row_of d memory b) a
 
--- both rows after the change, if it could be made; the length of the memory and what lies beyond n rows are as they were
+-- both rows after the change, if it could be made; the length of the memory and what lies beyond n
+-- rows are as they were
 pub record BothChanged (change : Change) (n d a b : ℕ) (before after : List ℕ) : Type 0 where
   pub rows : BothAble change n d a b before → after ≡ both_changed (changed change) d before a b
   pub same_length : length after ≡ length before

@@ -44,7 +44,8 @@ abbrev pub changed : Change → List ℕ → ℕ → List ℕ
 changed Insert row b = row_with row b
 changed Remove row b = row_without row b
 
--- row a of a book of n loads with row limit d: loads below n other than a, in rising order, then zeros
+-- row a of a book of n loads with row limit d: loads below n other than a, in rising order, then
+-- zeros
 pub record RowMade (n d a : ℕ) (row : List ℕ) : Type 0 where
   pub within : slice_index_or row 0 0 ≤ d
   pub rising : Rises ltb (entries row)

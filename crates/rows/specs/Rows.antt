@@ -48,7 +48,8 @@ book_ledger s = ledger_of s.size s.row_limit s.tally.limit s.tally.count s.rows.
 abbrev pub BookMade : SortedRows → Type 0
 BookMade s = RowsMade s.size s.row_limit s.tally.limit s.tally.count s.rows.now
 
--- what no call changes: whose the numbers are, how many, and those past the rows; size, row limit and limit
+-- what no call changes: whose the numbers are, how many, and those past the rows; size, row limit
+-- and limit
 pub record RowsFixed : Type 0 where
   pub lender : GName
   pub length : ℕ
@@ -68,7 +69,8 @@ rows_fixed s =
       limit = s.tally.limit;
     }
 
--- the first reason not to make a book of n loads with row limit d and this link limit in so much memory
+-- the first reason not to make a book of n loads with row limit d and this link limit in so much
+-- memory
 abbrev pub checking : ℕ → ℕ → ℕ → ℕ → Option Reason
 checking n d limit memory =
     unless_size n
@@ -86,12 +88,15 @@ pub record Fresh (n d limit : ℕ) (s : SortedRows) : Type 0 where
   pub graph : book_graph s ≡ edgeless n
   pub ledger : book_ledger s ≡ fresh n d limit
 
--- what is made in memory that held `before`: the book asked for, or, where there is a reason not to make it, one of no loads
+-- what is made in memory that held `before`: the book asked for, or, where there is a reason not to
+-- make it, one of no loads
 abbrev pub Making : Option Reason → ℕ → ℕ → ℕ → List ℕ → SortedRows → Type 0
 Making None n d limit before s = Fresh n d limit s × Cleared (n * (d + 1)) before s.rows.now
 Making (Some reason) n d limit before s = Fresh 0 0 0 s × (s.rows.now ≡ before)
 
--- what the memory of a book that was s holds after it answered r to a call that adds or removes the link of a and b
-abbrev pub Written : (List ℕ → ℕ → List ℕ) → SortedRows → ℕ → ℕ → Result Unit Refused → SortedRows → Type 0
+-- what the memory of a book that was s holds after it answered r to a call that adds or removes the
+-- link of a and b
+abbrev pub Written : (List ℕ → ℕ → List ℕ) → SortedRows → ℕ → ℕ → Result Unit Refused → SortedRows →
+    Type 0
 Written change s a b r t =
     BookMade s → is_ok r ≡ true → t.rows.now ≡ both_changed change s.row_limit s.rows.now a b

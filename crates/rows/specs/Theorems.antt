@@ -19,8 +19,8 @@ RowsHold d g memory =
 abbrev pub RowsOfGraph : Type 0
 RowsOfGraph = (s : SortedRows) → BookMade s → RowsHold s.row_limit (book_graph s) s.rows.now
 
--- memory that held `before`, and in which a book of n loads with row limit d was made that has the links of g now: all its
--- numbers
+-- memory that held `before`, and in which a book of n loads with row limit d was made that has the
+-- links of g now: all its numbers
 pub record MemoryHolds (n d : ℕ) (g : Graph) (before after : List ℕ) : Type 0 where
   pub same_size : g.size ≡ n
   pub same_length : length after ≡ length before

@@ -9,6 +9,7 @@ ghost use Rattle.row.specs.Row.{row_with, row_without};
 ghost use Rattle.row.specs.Memory.{BothChanged};
 ghost use Rattle.rows.specs.Rows.{book_row, book_graph, book_ledger, BookMade, RowsFixed, rows_fixed, checking, Making, Written};
 
+/// What holds of every made book in rows.
 pub mod theorems;
 
 use links::{
@@ -18,8 +19,9 @@ use links::{
 use rise::first_unordered;
 use row::{Change, change_row, position, row_loads};
 
-// A book of links in memory that the caller lends. Each load has a row: the number of its links, the loads that it is
-// linked to in rising order, then zeros.
+/// A book of links in numbers that the caller lends. Each load has a row of row limit + 1 numbers:
+/// how many links it has, the loads that it is linked to in rising order, then zeros. No pair is
+/// barred.
 #[derive(Drop)]
 pub struct SortedRows<'a> {
     size: u16,
@@ -29,7 +31,10 @@ pub struct SortedRows<'a> {
 }
 
 impl<'a> SortedRows<'a> {
-    // Whether a book with these limits can be made in this memory.
+    /// Whether a book of `size` loads with these limits can be made in this memory. The book
+    /// refuses a size that is not 1 to 256 with 1, then a limit that is not 1 to 32,640 with 2,
+    /// then a row limit that is not 1 to 255 with 2, then fewer than size × (row limit + 1) numbers
+    /// with 3.
     pub fn check(size: usize, row_limit: usize, limit: usize, rows: &[u16]) -> Result<(), Refused>
         ensures { Answers (checking size row_limit limit (length rows.now)) result (λ _. Unit {0}) }
     {
@@ -42,10 +47,13 @@ impl<'a> SortedRows<'a> {
         Ok(())
     }
 
-    // Makes a book without links. Where the check would refuse, it has no loads, and the memory stays as it is.
+    /// Makes a book without links. Clears the first size × (row limit + 1) numbers, and writes no
+    /// other. Where `check` would refuse, the book has no loads and limit 0, and the memory stays
+    /// as it is.
     pub fn new(size: usize, row_limit: usize, limit: usize, rows: &'a mut [u16]) -> SortedRows<'a>
         ensures made { BookMade result }
-        ensures making { Making (checking size row_limit limit (length rows.old)) size row_limit limit rows.old result }
+        ensures making { Making (checking size row_limit limit (length rows.old))
+            size row_limit limit rows.old result }
         ensures lender { result.rows.ghost_name ≡ rows.entry.ghost_name }
     {
         match SortedRows::check(size, row_limit, limit, rows) {
@@ -77,16 +85,19 @@ impl SortedRows<'_> {
         row_loads(self.rows, self.size, self.row_limit, a)
     }
 
-    // The index, among the loads of row a, of the first that does not come after the one before it.
+    /// The index, among the loads of row a, of the first that does not come after the one before
+    /// it; `None` where they rise, as in each made book. Reads the loads of the row up to it.
     pub fn row_break(&self, a: usize) -> Option<usize>
-        ensures first { MatchOption result (Rises nat_lt (book_row self.now a)) (λ i. FirstUnordered nat_lt (book_row self.now a) i) }
+        ensures first { MatchOption result (Rises nat_lt (book_row self.now a))
+            (λ i. FirstUnordered nat_lt (book_row self.now a) i) }
         ensures none { BookMade self.now → result ≡ None }
     {
         first_unordered(self.row(a))
     }
 }
 
-// Puts each of two loads into the row of the other, or takes it out. There is a row for each load below `size`.
+// Puts each of two loads into the row of the other, or takes it out. There is a row for each load
+// below `size`.
 fn change_both(rows: &mut [u16], size: u16, row_limit: u8, a: usize, b: usize, change: Change)
     ensures { BothChanged change size row_limit a b rows.old rows.new }
 {
@@ -105,16 +116,20 @@ impl Links for SortedRows<'_> {
         usize::from(self.size)
     }
 
+    /// Whether a and b are linked. Reads the loads of row a up to b.
     fn linked(&self, a: usize, b: usize) -> bool {
         let row = self.row(a);
         row.get(position(row, b))
             .is_some_and(|x| usize::from(*x) == b)
     }
 
+    /// The number of links of a. Reads the count of its row.
     fn degree(&self, a: usize) -> usize {
         self.row(a).len()
     }
 
+    /// The smallest load at or above `from` that is linked to a. Reads the loads of its row up to
+    /// that.
     fn next_linked(&self, a: usize, from: usize) -> Option<usize> {
         let row = self.row(a);
         row.get(position(row, from)).map(|x| usize::from(*x))
@@ -136,10 +151,12 @@ impl Book for SortedRows<'_> {
         self.tally.limit
     }
 
+    /// No pair is barred.
     fn is_barred(&self, _a: usize, _b: usize) -> bool {
         false
     }
 
+    /// How many more links a may take: the row limit less its degree. Reads the count of its row.
     fn spare(&self, a: usize) -> usize {
         if a >= usize::from(self.size) {
             return 0;
@@ -151,6 +168,8 @@ impl Book for SortedRows<'_> {
         self.tally.room()
     }
 
+    /// Links a and b. The book refuses with 4, 5, 6, 9 or 10, in this order, and stays as it was.
+    /// Reads and moves loads within rows a and b alone.
     fn add(&mut self, a: usize, b: usize) -> Result<(), Refused>
         ensures book { Adds book_graph BookMade book_ledger self.old a b result self.new }
         ensures written { Written row_with self.old a b result self.new }
@@ -168,6 +187,8 @@ impl Book for SortedRows<'_> {
         Ok(())
     }
 
+    /// Unlinks a and b. The book refuses with 4, 5 or 7, in this order, and stays as it was. Reads
+    /// and moves loads within rows a and b alone.
     fn remove(&mut self, a: usize, b: usize) -> Result<(), Refused>
         ensures book { Removes book_graph BookMade book_ledger self.old a b result self.new }
         ensures written { Written row_without self.old a b result self.new }

@@ -1,4 +1,5 @@
-// What holds of every book in rows that came from its making. The functions here do nothing: the contract of each is a theorem.
+// What holds of every book in rows that came from its making. The functions here do nothing: the
+// contract of each is a theorem.
 ghost use Rattle.rows.specs.Theorems.{RowsOfGraph, MemoryFollows, SparesLeft};
 
 /// Row a is the number of links of a, the loads linked to a in rising order, and then zeros.
@@ -6,8 +7,8 @@ pub fn rows_of_graph()
     ensures { RowsOfGraph }
 {}
 
-/// What every number of lent memory holds, once a book was made in it and went through any calls, granted or refused: the
-/// links as they are now, and past the rows what it held before.
+/// What every number of lent memory holds, once a book was made in it and went through any calls,
+/// granted or refused: the links as they are now, and past the rows what it held before.
 pub fn memory_follows()
     ensures { MemoryFollows }
 {}
