@@ -1,5 +1,5 @@
 -- What the memory of a matrix holds, from its making on.
-use Rattle.std.proofs.Common.{◌≡◌, ℕ, ◌+◌, ◌-◌, ◌≤◌, List, length, get_or, drop, None, sym, ap, ◌∙◌, subst, ap₂, arith}
+use Rattle.std.proofs.Common.{◌≡◌, ℕ, List, drop, None, sym, ap, ◌∙◌}
 use Rattle.links.proofs.Memory.{same_past}
 use Rattle.graph.specs.Graph.{Graph}
 use Rattle.books.specs.declared.bit_matrix.BitMatrix.{BitMatrix}

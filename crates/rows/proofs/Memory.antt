@@ -1,5 +1,5 @@
 -- What the memory of a book in rows holds, and what is left to its loads.
-use Rattle.std.proofs.Common.{◌≡◌, ℕ, ◌+◌, ◌-◌, ◌*◌, ◌<◌, ◌≤◌, Bool, cond, ltb, List, ◌∷◌, ◌++◌, length, get_or, drop, replicate, None, sym, ap, ◌∙◌, subst, ap₂, ⊎_elim, arith}
+use Rattle.std.proofs.Common.{◌≡◌, ℕ, ◌+◌, ◌-◌, ◌*◌, ◌<◌, List, ◌∷◌, ◌++◌, get_or, drop, replicate, None, sym, ap, ◌∙◌, subst, ap₂, arith}
 use Rattle.std.proofs.lemmas.Bool.{lt-ltb, cond-true}
 use Rattle.links.proofs.Memory.{same_past}
 use Rattle.graph.specs.Graph.{Graph, degree}

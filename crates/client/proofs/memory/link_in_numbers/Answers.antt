@@ -1,4 +1,4 @@
-use Rattle.std.proofs.Common.{◌≡◌, ◌∙◌, refl, ap, arith, rules}
+use Rattle.std.proofs.Common.{◌≡◌, ◌∙◌, refl, ap, rules}
 use Rattle.graph.specs.Graph.{edgeless}
 use Rattle.rows.specs.Rows.{book_graph, BookMade, book_ledger, RowsFixed, rows_fixed, fresh}
 use Rattle.client.proofs.Played.{granted_add, granted_answers, granted_keeps}
