@@ -1,5 +1,6 @@
 -- The partners that a table of claims gives the loads.
-use Rattle.std.specs.Prelude.{ℕ, Bool, true, false, cond, List, length, Some, None, Option, ◌==◌, nat_lt, slice_index}
+use Rattle.std.specs.Prelude.{ℕ, Bool, true, false, cond, List, length, Some, None, Option, ◌==◌}
+use Rattle.std.specs.Prelude.{nat_lt, slice_index}
 use Rattle.graph.specs.Matching.{Partners}
 
 -- 65535 claims no partner

@@ -7,7 +7,8 @@ use Rattle.audit.specs.declared.Verdict.{Verdict}
 use Rattle.audit.specs.declared.Verdict.TheVariants.{Sound}
 use Rattle.audit.specs.Claims.{claimed}
 
--- each load has a claim, and the claims are a matching without augmenting paths of one or three links
+-- each load has a claim, and the claims are a matching without augmenting paths of one or three
+-- links
 pub record SoundClaims (g : Graph) (claims : List ℕ) : Type 0 where
   pub whole : length claims ≡ g.size
   pub matching : Matching g (claimed claims)

@@ -7,7 +7,8 @@ use Rattle.audit.specs.declared.Claimed.{Claimed}
 use Rattle.audit.specs.Claims.{claimed, and_then}
 use Rattle.audit.specs.Verdicts.{lowest, ends}
 
--- r is the answer that the links and the claims give, where the links came from their making and each load has a claim
+-- r is the answer that the links and the claims give, where the links came from their making and
+-- each load has a claim
 abbrev pub Tells : {L A : Type 0} → (L → Type 0) → (L → Graph) → Claimed L → (Graph → Partners → A) → A → Type 0
 Tells made graph s answer r = made s.links.now → Simple (graph s.links.now) → length s.claims.now ≡ (graph s.links.now).size → r ≡ answer (graph s.links.now) (claimed s.claims.now)
 

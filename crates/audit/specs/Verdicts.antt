@@ -1,5 +1,6 @@
 -- What an audit of claimed partners finds.
-use Rattle.std.specs.Prelude.{◌≡◌, ℕ, zero, suc, Bool, cond, not, ◌&&◌, List, [], ◌∷◌, length, Some, None, Option, Result, ◌==◌}
+use Rattle.std.specs.Prelude.{◌≡◌, ℕ, zero, suc, Bool, cond, not, ◌&&◌, List, [], ◌∷◌, length, Some}
+use Rattle.std.specs.Prelude.{None, Option, Result, ◌==◌}
 use Rattle.std.specs.Option.{option_or}
 use Rattle.std.specs.Bool.{then_some}
 use Rattle.graph.specs.Graph.{Graph}
@@ -10,7 +11,8 @@ use Rattle.links.specs.Refusals.{Reason, Answers}
 use Rattle.links.specs.declared.refusal.Layer.TheVariants.{Board}
 use Rattle.links.specs.declared.refusal.Refused.{Refused}
 use Rattle.audit.specs.declared.Verdict.{Verdict}
-use Rattle.audit.specs.declared.Verdict.TheVariants.{Sound, NotReturned, NotLinked, PathOfOne, PathOfThree}
+use Rattle.audit.specs.declared.Verdict.TheVariants.{Sound, NotReturned, NotLinked, PathOfOne}
+use Rattle.audit.specs.declared.Verdict.TheVariants.{PathOfThree}
 use Rattle.audit.specs.Claims.{claimed, passes, returned, and_then}
 
 -- the number of each verdict, and its loads

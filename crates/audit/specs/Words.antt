@@ -1,7 +1,8 @@
 -- What a verdict is called, for people to read.
 use Rattle.std.specs.Prelude.{ℕ, List, ◌++◌, codes, decimal}
 use Rattle.audit.specs.declared.Verdict.{Verdict}
-use Rattle.audit.specs.declared.Verdict.TheVariants.{Sound, NotReturned, NotLinked, PathOfOne, PathOfThree}
+use Rattle.audit.specs.declared.Verdict.TheVariants.{Sound, NotReturned, NotLinked, PathOfOne}
+use Rattle.audit.specs.declared.Verdict.TheVariants.{PathOfThree}
 
 abbrev pub verdict_text : Verdict → List ℕ
 verdict_text Sound = codes "sound: no path of one or three links joins two free loads"

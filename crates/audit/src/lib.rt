@@ -1,4 +1,5 @@
-// The audit: whether claimed partners are a matching of the links, with no augmenting path of one or three links.
+// The audit: whether claimed partners are a matching of the links, with no augmenting path of one
+// or three links.
 #![tactic(auto)]
 
 ghost use Rattle.std.specs.Prelude.{◌≡◌, length, Some};
@@ -7,14 +8,16 @@ ghost use Rattle.audit.specs.Claims.{claimed, returned};
 ghost use Rattle.audit.specs.Example.{MiddleClaimed};
 ghost use Rattle.audit.specs.Soundness.{SoundWhen};
 ghost use Rattle.audit.specs.Steps.{Tells, lowest_end, path_beyond};
-ghost use Rattle.audit.specs.Verdicts.{is_linked, lowest_not_returned, lowest_not_linked, path_of_one_at, lowest_path_of_one, path_of_three_at, lowest_path_of_three, meaning, verdict, Audits};
+ghost use Rattle.audit.specs.Verdicts.{is_linked, lowest_not_returned, lowest_not_linked};
+ghost use Rattle.audit.specs.Verdicts.{path_of_one_at, lowest_path_of_one, path_of_three_at};
+ghost use Rattle.audit.specs.Verdicts.{lowest_path_of_three, meaning, verdict, Audits};
 ghost use Rattle.audit.specs.Words.{verdict_text};
 
 use links::walk::linked_loads;
 use links::{Layer, Links, Refusal, Refused};
 use std::fmt;
 
-// What an audit finds: the claims are sound, or the first fault.
+/// What an audit finds: the claims are sound, or the first fault.
 #[derive(Clone, Copy, PartialEq, Eq, Debug)]
 pub enum Verdict {
     Sound,
@@ -63,7 +66,7 @@ impl fmt::Display for Verdict {
     }
 }
 
-// The claim of a load that has no partner.
+/// The claim of a load that has no partner.
 pub const NO_PARTNER: u16 = 65535;
 
 // Links, and the partner that each load claims.
@@ -186,7 +189,8 @@ impl<L: Links> Claimed<'_, L> {
     }
 }
 
-// Whether the claims, one for each load, are sound, or what their first fault is. A claim of 65535 is for no partner.
+/// Whether the claims, one for each load, are sound, or what their first fault is. A claim of 65535
+/// is for no partner.
 pub fn audit<L: Links>(links: &L, claims: &[u16]) -> Result<Verdict, Refused>
     ensures value { L.Links.made links.now → Audits (L.Links.graph links.now) claims.now result }
     ensures sound { L.Links.made links.now → SoundWhen (L.Links.graph links.now) claims.now result }
@@ -197,7 +201,8 @@ pub fn audit<L: Links>(links: &L, claims: &[u16]) -> Result<Verdict, Refused>
     Ok(Claimed { links, claims }.verdict())
 }
 
-// On a path of four loads of which only the middle two claim each other, the audit finds an augmenting path.
+/// On a path of four loads of which only the middle two claim each other, the audit finds an
+/// augmenting path.
 pub fn middle_pair_leaves_a_path()
     ensures { MiddleClaimed }
 {}

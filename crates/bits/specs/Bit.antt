@@ -1,5 +1,6 @@
 -- The bits of a word.
-use Rattle.std.specs.Prelude.{◌≡◌, ℕ, ◌/◌, ◌%◌, ◌^◌, ◌<◌, ◌≤◌, Bool, false, Option, MatchOption, ◌==◌}
+use Rattle.std.specs.Prelude.{◌≡◌, ℕ, ◌/◌, ◌%◌, ◌^◌, ◌<◌, ◌≤◌, Bool, false, Option, MatchOption}
+use Rattle.std.specs.Prelude.{◌==◌}
 use Rattle.graph.specs.Graph.{First}
 
 -- bit k of the word is 1; bit 0 is the lowest

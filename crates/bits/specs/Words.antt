@@ -1,5 +1,6 @@
 -- A list of words as a set of numbers.
-use Rattle.std.specs.Prelude.{◌≡◌, ℕ, ◌/◌, ◌%◌, ◌^◌, ◌<◌, ◌≤◌, Bool, false, List, Option, MatchOption, slice_index}
+use Rattle.std.specs.Prelude.{◌≡◌, ℕ, ◌/◌, ◌%◌, ◌^◌, ◌<◌, ◌≤◌, Bool, false, List, Option}
+use Rattle.std.specs.Prelude.{MatchOption, slice_index}
 use Rattle.graph.specs.Graph.{First}
 use Rattle.bits.specs.Bit.{bit}
 

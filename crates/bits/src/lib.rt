@@ -2,7 +2,8 @@
 // row of words has it: load b is bit b mod 64 of its word.
 #![tactic(auto)]
 
-ghost use Rattle.std.specs.Prelude.{◌≡◌, ℕ, ◌%◌, ◌≤◌, ◌<◌, ◌*◌, ◌^◌, not, ◌&&◌, ◌||◌, ◌==◌, if◌then◌else◌, nat_eq, length, IfSome};
+ghost use Rattle.std.specs.Prelude.{◌≡◌, ℕ, ◌%◌, ◌≤◌, ◌<◌, ◌*◌, ◌^◌, not, ◌&&◌, ◌||◌, ◌==◌};
+ghost use Rattle.std.specs.Prelude.{if◌then◌else◌, nat_eq, length, IfSome};
 ghost use Rattle.graph.specs.Graph.{count, Next};
 ghost use Rattle.bits.specs.Bit.{bit, NextBit};
 ghost use Rattle.bits.specs.Words.{member, NextNamed};

@@ -16,8 +16,8 @@ position graph ledger s =
     record { graph = graph s.book; ledger = ledger s.book; partners = partners_of s.tables }
 
 module _ {B R : Type 0} (graph : B → Graph) (made : B → Type 0) (ledger : B → Ledger) where
-  -- what opening on a made book gives and each call keeps: the book was made, the tables agree with it, and the position
-  -- is sound
+  -- what opening on a made book gives and each call keeps: the book was made, the tables agree with
+  -- it, and the position is sound
   pub record Stands (s : Board B R) : Type 0 where
     pub book_made : made s.book
     pub agrees : Agrees (graph s.book) s.tables
@@ -31,9 +31,10 @@ module _ {B R : Type 0} (graph : B → Graph) (made : B → Type 0) (ledger : B 
         position graph ledger r ≡ opened (before ranking) (graph book) (ledger book)
     pub stands : made book → Stands r
 
-  module _ (order : Ranking) (s : Board B R) (c : Call) (r : Result (Answer c) Refused) (t : Board B R) where
-    -- a call c on the board s is refused for the reason of the rules or granted, and the book of the board t after it is a
-    -- made book that stands for their graph and their ledger
+  module _ (order : Ranking) (s : Board B R) (c : Call) (r : Result (Answer c) Refused)
+      (t : Board B R) where
+    -- a call c on the board s is refused for the reason of the rules or granted, and the book of
+    -- the board t after it is a made book that stands for their graph and their ledger
     pub record FollowsBook : Type 0 where
       pub decides : Answers (reason (position graph ledger s) c) r (λ _. Unit {0})
       pub book : let y = after order (position graph ledger s) c in
@@ -45,8 +46,9 @@ module _ {B R : Type 0} (graph : B → Graph) (made : B → Type 0) (ledger : B 
       pub partners : partners_of t.tables ≡ (after order (position graph ledger s) c).partners
       pub stands : Stands t
 
-  -- how a board s answers r to a call c, and is t after it. Refused, and after a question, it is as it was. Links and spares
-  -- follow the rules where the book was made, and partners where the board stands. `fixed` is what no call changes
+  -- how a board s answers r to a call c, and is t after it. Refused, and after a question, it is as
+  -- it was. Links and spares follow the rules where the book was made, and partners where the board
+  -- stands. `fixed` is what no call changes
   pub record Steps {F : Type 0} (fixed : B → F) (before : R → Ranking) (s : Board B R) (c : Call)
       (r : Result (Answer c) Refused) (t : Board B R) : Type 0 where
     pub kept : Kept r s t

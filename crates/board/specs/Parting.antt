@@ -12,4 +12,6 @@ pub record PartnersParted (g : Graph) (a b : ℕ) (s t : Tables) : Type 0 where
 
 -- for two loads, where the tables agree with g and a partner of a has a as its own
 abbrev pub PartsPartners : Graph → ℕ → ℕ → Tables → Tables → Type 0
-PartsPartners g a b s t = a < 256 → b < 256 → (a ≢ b) → (partners_of s a ≡ Some b → partners_of s b ≡ Some a) → Agrees g s → PartnersParted g a b s t
+PartsPartners g a b s t =
+    a < 256 → b < 256 → (a ≢ b) → (partners_of s a ≡ Some b → partners_of s b ≡ Some a) →
+    Agrees g s → PartnersParted g a b s t

@@ -13,19 +13,19 @@ use tables::Tables;
 
 // Parts a and b if they are partners.
 fn part_partners<L: Links>(tables: &mut Tables, links: &L, a: usize, b: usize)
-    ensures { OfBook (L.Links.made links.now) (L.Links.graph links.now) (λ g. PartsPartners g a b tables.old tables.new) }
+    ensures { OfBook (L.Links.made links.now) (L.Links.graph links.now)
+        (λ g. PartsPartners g a b tables.old tables.new) }
 {
     if tables.partner(a) == Some(b) {
         tables.part(links, a, b);
     }
 }
 
-// Removes all links of a load, whose partner stays as it is. It ends for every value of the book. The book changes at each
-// link, so the next one is asked of the book as it is then.
+// Removes all links of a load, whose partner stays as it is. It ends for every value of the book.
+// The book changes at each link, so the next one is asked of the book as it is then.
 fn remove_links<B: Book>(book: &mut B, tables: &mut Tables, a: usize)
-    ensures removes {
-        RemovesLinks B.Links.graph B.Links.made B.Book.ledger a book.old tables.old book.new tables.new
-    }
+    ensures removes { RemovesLinks B.Links.graph B.Links.made B.Book.ledger
+        a book.old tables.old book.new tables.new }
     ensures stays { B.Book.fixed book.new ≡ B.Book.fixed book.old }
 {
     let mut from = 0;
@@ -42,13 +42,11 @@ fn remove_links<B: Book>(book: &mut B, tables: &mut Tables, a: usize)
 }
 
 impl<B: Book, R: Ranking> Board<B, R> {
-    // Links a and b, and repairs the matching at both. It looks at the links of the two loads, and at those of the at most
-    // six loads whose partner changes.
+    /// Links a and b, and repairs the matching at both. It looks at the links of the two loads, and
+    /// at those of the at most six loads whose partner changes.
     pub fn link(&mut self, a: usize, b: usize) -> Result<(), Refused>
-        ensures {
-            Steps B.Links.graph B.Links.made B.Book.ledger B.Book.fixed R.Ranking.before
-            self.old (link a b) result self.new
-        }
+        ensures { Steps B.Links.graph B.Links.made B.Book.ledger B.Book.fixed R.Ranking.before
+            self.old (link a b) result self.new }
     {
         check_two(self.book.size(), a, b, Layer::Board)?;
         self.book.add(a, b)?;
@@ -57,13 +55,12 @@ impl<B: Book, R: Ranking> Board<B, R> {
         Ok(())
     }
 
-    // Unlinks a and b, which part if they are partners, and repairs the matching at both. It looks at the links of the two
-    // loads, and at those of the at most twelve loads whose partner changes.
+    /// Unlinks a and b, which part if they are partners, and repairs the matching at both. It looks
+    /// at the links of the two loads, and at those of the at most twelve loads whose partner
+    /// changes.
     pub fn unlink(&mut self, a: usize, b: usize) -> Result<(), Refused>
-        ensures {
-            Steps B.Links.graph B.Links.made B.Book.ledger B.Book.fixed R.Ranking.before
-            self.old (unlink a b) result self.new
-        }
+        ensures { Steps B.Links.graph B.Links.made B.Book.ledger B.Book.fixed R.Ranking.before
+            self.old (unlink a b) result self.new }
     {
         check_two(self.book.size(), a, b, Layer::Board)?;
         self.book.remove(a, b)?;
@@ -73,13 +70,12 @@ impl<B: Book, R: Ranking> Board<B, R> {
         Ok(())
     }
 
-    // Withdraws a load: all its links are removed, and the partner that it had is repaired. It looks at the links of the
-    // load, and at those of the at most seven loads whose partner changes.
+    /// Withdraws a load: all its links are removed, and the partner that it had is repaired. It
+    /// looks at the links of the load, and at those of the at most seven loads whose partner
+    /// changes.
     pub fn withdraw(&mut self, a: usize) -> Result<(), Refused>
-        ensures {
-            Steps B.Links.graph B.Links.made B.Book.ledger B.Book.fixed R.Ranking.before
-            self.old (withdraw a) result self.new
-        }
+        ensures { Steps B.Links.graph B.Links.made B.Book.ledger B.Book.fixed R.Ranking.before
+            self.old (withdraw a) result self.new }
     {
         self.check_load(a)?;
         let partner = self.tables.partner(a);
@@ -91,13 +87,11 @@ impl<B: Book, R: Ranking> Board<B, R> {
         Ok(())
     }
 
-    // A load departs with its partner: all links of both are removed, and nothing is repaired. It looks at the links of
-    // the two loads.
+    /// A load departs with its partner: all links of both are removed, and nothing is repaired. It
+    /// looks at the links of the two loads.
     pub fn depart(&mut self, a: usize) -> Result<(), Refused>
-        ensures {
-            Steps B.Links.graph B.Links.made B.Book.ledger B.Book.fixed R.Ranking.before
-            self.old (depart a) result self.new
-        }
+        ensures { Steps B.Links.graph B.Links.made B.Book.ledger B.Book.fixed R.Ranking.before
+            self.old (depart a) result self.new }
     {
         self.check_load(a)?;
         let Some(b) = self.tables.partner(a) else {

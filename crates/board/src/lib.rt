@@ -17,7 +17,7 @@ mod changes;
 mod opening;
 mod questions;
 
-// A book, the ranking by which its loads choose, and the tables in which their partners stand.
+/// A book, the ranking by which its loads choose, and the tables in which their partners stand.
 #[derive(Drop)]
 pub struct Board<B, R> {
     book: B,
@@ -48,10 +48,8 @@ fn repair_of<'a, B: Book, R: Ranking>(book: &'a B, ranking: &'a R) -> Repair<'a,
 
 impl<B: Book, R: Ranking> Board<B, R> {
     fn check_load(&self, a: usize) -> Result<(), Refused>
-        ensures load {
-            B.Links.made self.now.book →
-            Answers (unless_load (B.Links.graph self.now.book) a None) result (λ _. Unit {0})
-        }
+        ensures load { B.Links.made self.now.book →
+            Answers (unless_load (B.Links.graph self.now.book) a None) result (λ _. Unit {0}) }
         ensures simple { B.Links.made self.now.book → Simple (B.Links.graph self.now.book) }
     {
         if a < self.book.size() {

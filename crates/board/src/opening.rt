@@ -14,7 +14,9 @@ use tables::Tables;
 
 // Records the links of a with the loads below it.
 fn record_below<L: Links>(tables: &mut Tables, links: &L, a: usize)
-    ensures { OfBook (L.Links.made links.now) (L.Links.graph links.now) (λ g. a < g.size → AllFree (links_before g a 0) tables.old → AllFree (links_before g (a + 1) 0) tables.new) }
+    ensures { OfBook (L.Links.made links.now) (L.Links.graph links.now)
+        (λ g. a < g.size →
+        AllFree (links_before g a 0) tables.old → AllFree (links_before g (a + 1) 0) tables.new) }
 {
     for b in linked_loads(links, a, a) {
         tables.link(a, b);
@@ -23,7 +25,8 @@ fn record_below<L: Links>(tables: &mut Tables, links: &L, a: usize)
 
 // The tables of the links of the loads below `size`, all of which are free.
 fn recorded<L: Links>(links: &L, size: usize) -> Tables
-    ensures { OfBook (L.Links.made links.now) (L.Links.graph links.now) (λ g. size ≡ g.size → AllFree g result) }
+    ensures { OfBook (L.Links.made links.now) (L.Links.graph links.now)
+        (λ g. size ≡ g.size → AllFree g result) }
 {
     let mut tables = Tables::new();
     for a in 0..size {
@@ -33,14 +36,12 @@ fn recorded<L: Links>(links: &L, size: usize) -> Tables
 }
 
 impl<B: Book, R: Ranking> Board<B, R> {
-    // Opens a board on a book: all loads are free at first, and all are repaired. It looks at every load and its links, and
-    // is the only call that does.
+    /// Opens a board on a book: all loads are free at first, and all are repaired. It looks at
+    /// every load and its links, and is the only call that does.
     pub fn open(book: B, ranking: R) -> Board<B, R>
         ensures opens { Opens B.Links.graph B.Links.made B.Book.ledger R.Ranking.before book ranking result }
-        ensures law {
-            B.Links.made book →
-            Law B.Links.graph B.Links.made B.Book.ledger B.Book.fixed R.Ranking.before result
-        }
+        ensures law { B.Links.made book →
+            Law B.Links.graph B.Links.made B.Book.ledger B.Book.fixed R.Ranking.before result }
     {
         let size = book.size().min(256);
         let loads: [usize; 256] = array::from_fn(|load| load);

@@ -10,10 +10,8 @@ use ranking::Ranking;
 impl<B: Book, R: Ranking> Board<B, R> {
     /// The partner of a load, if it has one. Refused with 4 (board) where `a` is not a load.
     pub fn partner(&self, a: usize) -> Result<Option<usize>, Refused>
-        ensures answers {
-            Steps B.Links.graph B.Links.made B.Book.ledger B.Book.fixed R.Ranking.before
-            self.now (ask_partner a) result self.now
-        }
+        ensures answers { Steps B.Links.graph B.Links.made B.Book.ledger B.Book.fixed R.Ranking.before
+            self.now (ask_partner a) result self.now }
         ensures bound { IfOk result (λ o. IfSome o (λ b. b < 256)) }
     {
         self.check_load(a)?;
@@ -22,22 +20,18 @@ impl<B: Book, R: Ranking> Board<B, R> {
 
     /// How many free loads a load is linked to. Refused with 4 (board) where `a` is not a load.
     pub fn free_links(&self, a: usize) -> Result<usize, Refused>
-        ensures {
-            Steps B.Links.graph B.Links.made B.Book.ledger B.Book.fixed R.Ranking.before
-            self.now (ask_free_links a) result self.now
-        }
+        ensures { Steps B.Links.graph B.Links.made B.Book.ledger B.Book.fixed R.Ranking.before
+            self.now (ask_free_links a) result self.now }
     {
         self.check_load(a)?;
         Ok(self.tables.free_links(a))
     }
 
-    /// The smallest free load at or above `from` that a load is linked to, if there is one. Refused with 4 (board) where `a`
-    /// is not a load.
+    /// The smallest free load at or above `from` that a load is linked to, if there is one. Refused
+    /// with 4 (board) where `a` is not a load.
     pub fn next_free_link(&self, a: usize, from: usize) -> Result<Option<usize>, Refused>
-        ensures {
-            Steps B.Links.graph B.Links.made B.Book.ledger B.Book.fixed R.Ranking.before
-            self.now (ask_next_free a from) result self.now
-        }
+        ensures { Steps B.Links.graph B.Links.made B.Book.ledger B.Book.fixed R.Ranking.before
+            self.now (ask_next_free a from) result self.now }
     {
         self.check_load(a)?;
         Ok(self.tables.next_free_linked(a, from))
@@ -52,10 +46,8 @@ impl<B: Book, R: Ranking> Board<B, R> {
 
     /// The number of pairs. It looks at every load.
     pub fn pairs(&self) -> usize
-        ensures {
-            Steps B.Links.graph B.Links.made B.Book.ledger B.Book.fixed R.Ranking.before
-            self.now ask_pairs (Ok result) self.now
-        }
+        ensures { Steps B.Links.graph B.Links.made B.Book.ledger B.Book.fixed R.Ranking.before
+            self.now ask_pairs (Ok result) self.now }
     {
         self.tables.matched() / 2
     }

@@ -1,5 +1,7 @@
 -- A graph in a bit matrix.
-use Rattle.std.specs.Prelude.{◌≡◌, ℕ, ◌+◌, ◌-◌, ◌*◌, ◌/◌, ◌%◌, ◌<◌, ◌≤◌, Bool, false, cond, ◌&&◌, ◌||◌, List, [], length, take, drop, Some, None, Option, ◌==◌, nat_lt, slice_index}
+use Rattle.std.specs.Prelude.{◌≡◌, ℕ, ◌+◌, ◌-◌, ◌*◌, ◌/◌, ◌%◌, ◌<◌, ◌≤◌, Bool, false, cond, ◌&&◌}
+use Rattle.std.specs.Prelude.{◌||◌, List, [], length, take, drop, Some, None, Option, ◌==◌, nat_lt}
+use Rattle.std.specs.Prelude.{slice_index}
 use Rattle.std.specs.Borrow.{GName}
 use Rattle.graph.specs.Graph.{Graph, degree, link_count, edgeless}
 use Rattle.links.specs.Books.{Ledger, Stands, by_book, unless_size, unless_limit}

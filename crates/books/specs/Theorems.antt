@@ -1,10 +1,12 @@
 -- What holds of every bit matrix that came from its making.
-use Rattle.std.specs.Prelude.{◌≡◌, ℕ, ◌+◌, ◌*◌, ◌<◌, ◌≤◌, false, List, length, None, ◌≢◌, slice_index}
+use Rattle.std.specs.Prelude.{◌≡◌, ℕ, ◌+◌, ◌*◌, ◌<◌, ◌≤◌, false, List, length, None, ◌≢◌}
+use Rattle.std.specs.Prelude.{slice_index}
 use Rattle.graph.specs.Graph.{Graph}
 use Rattle.links.specs.Books.{adding, by_book}
 use Rattle.bits.specs.Bit.{bit}
 use Rattle.books.specs.declared.bit_matrix.BitMatrix.{BitMatrix}
-use Rattle.books.specs.Matrix.{row_words, all_words, matrix_graph, matrix_ledger, MatrixMade, matrix_fixed, Making}
+use Rattle.books.specs.Matrix.{row_words, all_words, matrix_graph, matrix_ledger, MatrixMade}
+use Rattle.books.specs.Matrix.{matrix_fixed, Making}
 
 -- with w words to a row, bit j of word a × w + i is the link of a and 64 × i + j, and 0 where that
 -- is no load

@@ -2,7 +2,9 @@
 ghost use Rattle.std.specs.Prelude.{◌≡◌, ◌≤◌, true, false, ◌&&◌, length, is_ok};
 ghost use Rattle.links.specs.Books.{Adds, Removes};
 ghost use Rattle.links.specs.Refusals.{Answers};
-ghost use Rattle.books.specs.Matrix.{row_words, is_place, is_link_place, held, matrix_row, matrix_graph, matrix_ledger, MatrixMade, rewritten, checking, Making, MatrixFixed, matrix_fixed, Written};
+ghost use Rattle.books.specs.Matrix.{row_words, is_place, is_link_place, held, matrix_row};
+ghost use Rattle.books.specs.Matrix.{matrix_graph, matrix_ledger, MatrixMade, rewritten, checking};
+ghost use Rattle.books.specs.Matrix.{Making, MatrixFixed, matrix_fixed, Written};
 
 use bits::{bit_of, count_bits, next_member, put_bit};
 use links::{

@@ -1,19 +1,20 @@
-// The commands of a stream, as bytes: one for the kind of command, then two for each of its loads, the high byte first; and as
-// lines of text.
+// The commands of a stream, as bytes: one for the kind of command, then two for each of its loads,
+// the high byte first; and as lines of text.
 #![tactic(auto)]
 
 ghost use Rattle.std.specs.Prelude.{◌≡◌, ◌+◌, ◌*◌, ◌≤◌, length, take, None, Some};
 ghost use Rattle.links.specs.Outputs.{Writes};
 ghost use Rattle.links.specs.Refusals.{Answers};
-ghost use Rattle.commands.specs.Commands.{bytes, line_of, decoding, decoded, unless_short, Reads, Spanned, ReadsBack};
+ghost use Rattle.commands.specs.Commands.{bytes, line_of, decoding, decoded, unless_short, Reads};
+ghost use Rattle.commands.specs.Commands.{Spanned, ReadsBack};
 
 use links::{Layer, Refusal, Refused, write_start};
 use std::fmt;
 
-// A stream has at most this many bytes.
+/// A stream has at most this many bytes.
 pub const LONGEST_STREAM: usize = 65_536;
 
-// A command of the stream.
+/// A command of the stream.
 #[derive(Clone, Copy, PartialEq, Eq, Debug)]
 pub enum Command {
     Link(u16, u16),
@@ -23,7 +24,7 @@ pub enum Command {
     Partner(u16),
 }
 
-// A command that was read, and the place after it.
+/// A command that was read, and the place after it.
 #[derive(Clone, Copy, PartialEq, Eq, Debug)]
 pub struct Decoded {
     pub command: Command,
@@ -58,7 +59,7 @@ impl Command {
         [code, high_a, low_a, high_b, low_b]
     }
 
-    // Writes the command at the start of an output, and answers how many bytes it has.
+    /// Writes the command at the start of an output, and answers how many bytes it has.
     #[tactic(auto, using(crate::proofs::Reading::reads_back))]
     pub fn write(self, out: &mut [u8]) -> Result<usize, Refused>
         ensures value { Writes (bytes self) out.old result out.new }
@@ -104,7 +105,7 @@ fn decode(rest: &[u8]) -> Result<Command, Refused>
     }
 }
 
-// Whether a stream is short enough to be read.
+/// Whether a stream is short enough to be read.
 pub fn check_length(stream: &[u8]) -> Result<(), Refused>
     ensures { Answers (unless_short stream.now None) result (λ _. Unit {0}) }
 {
@@ -114,7 +115,7 @@ pub fn check_length(stream: &[u8]) -> Result<(), Refused>
     Ok(())
 }
 
-// The command at a place of a stream; none at or past its end.
+/// The command at a place of a stream; none at or past its end.
 pub fn read(stream: &[u8], place: usize) -> Result<Option<Decoded>, Refused>
     ensures value { Reads stream.now place result }
     ensures spanned { Spanned stream.now place result }

@@ -1,5 +1,6 @@
 -- Classes of loads, and what barred pairs of classes leave of a graph and of a ledger.
-use Rattle.std.specs.Prelude.{ℕ, min, Bool, cond, not, ◌&&◌, ◌||◌, List, Option, Some, None, Result, OnOk, nat_lt, slice_index}
+use Rattle.std.specs.Prelude.{ℕ, min, Bool, cond, not, ◌&&◌, ◌||◌, List, Option, Some, None, Result}
+use Rattle.std.specs.Prelude.{OnOk, nat_lt, slice_index}
 use Rattle.graph.specs.Graph.{Graph, added, removed}
 use Rattle.links.specs.declared.refusal.Layer.TheVariants.{Book}
 use Rattle.links.specs.declared.refusal.Refusal.{Refusal}

@@ -5,7 +5,9 @@ ghost use Rattle.std.specs.Prelude.{◌≡◌, ℕ, ◌<◌, ◌≤◌, false, O
 ghost use Rattle.graph.specs.Graph.{count};
 ghost use Rattle.links.specs.Books.{Stands, Adds, Removes};
 ghost use Rattle.links.specs.Refusals.{Answers};
-ghost use Rattle.filter.specs.Classes.{class_of, hidden, filtered, filtered_ledger, filter_graph, FilterMade, filter_ledger, FilterFixed, filter_fixed, unless_visible, AddedBelow, RemovedBelow};
+ghost use Rattle.filter.specs.Classes.{class_of, hidden, filtered, filtered_ledger, filter_graph};
+ghost use Rattle.filter.specs.Classes.{FilterMade, filter_ledger, FilterFixed, filter_fixed};
+ghost use Rattle.filter.specs.Classes.{unless_visible, AddedBelow, RemovedBelow};
 
 use bits::bit_of;
 use links::walk::{linked_loads, linked_loads_from};

@@ -1,12 +1,14 @@
 -- Graphs on the loads below a size, and what is counted of them.
-use Rattle.std.specs.Prelude.{◌≡◌, ℕ, zero, suc, ◌+◌, ◌<◌, ◌≤◌, Bool, true, false, cond, not, ◌&&◌, ◌||◌, Option, MatchOption, ◌==◌}
+use Rattle.std.specs.Prelude.{◌≡◌, ℕ, zero, suc, ◌+◌, ◌<◌, ◌≤◌, Bool, true, false, cond, not, ◌&&◌}
+use Rattle.std.specs.Prelude.{◌||◌, Option, MatchOption, ◌==◌}
 
 -- a set of links among the loads below `size`
 pub record Graph : Type 0 where
   pub size : ℕ
   pub linked : ℕ → ℕ → Bool
 
--- at most 256 loads; a link joins two different loads, has no direction, and no number past the size has one
+-- at most 256 loads; a link joins two different loads, has no direction, and no number past the
+-- size has one
 pub record Simple (g : Graph) : Type 0 where
   pub small : g.size ≤ 256
   pub loopless : (a : ℕ) → g.linked a a ≡ false

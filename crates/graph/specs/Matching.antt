@@ -1,5 +1,6 @@
 -- Matchings, and their augmenting paths of any number of links.
-use Rattle.std.specs.Prelude.{◌≡◌, ℕ, ◌+◌, ◌%◌, ◌<◌, ◌≤◌, true, List, length, Some, None, Option, ◌≢◌, slice_index}
+use Rattle.std.specs.Prelude.{◌≡◌, ℕ, ◌+◌, ◌%◌, ◌<◌, ◌≤◌, true, List, length, Some, None, Option}
+use Rattle.std.specs.Prelude.{◌≢◌, slice_index}
 use Rattle.graph.specs.Graph.{Graph}
 
 -- the partner of each load, if it has one
@@ -18,8 +19,8 @@ pub record Matching (g : Graph) (p : Partners) : Type 0 where
 abbrev pub at : List ℕ → ℕ → ℕ
 at path i = slice_index path i
 
--- a path of m links over different loads, from a free load to a free load, whose steps go over links outside
--- and inside the matching in turn
+-- a path of m links over different loads, from a free load to a free load, whose steps go over
+-- links outside and inside the matching in turn
 pub record Augmenting (g : Graph) (p : Partners) (m : ℕ) (path : List ℕ) : Type 0 where
   pub positive : 0 < m
   pub loads : length path ≡ m + 1

@@ -8,7 +8,8 @@ pub record OfOne (g : Graph) (p : Partners) : Type 0 where
   pub shape : (path : List ℕ) → Augmenting g p 1 path → (a : ℕ) × (b : ℕ) × (path ≡ a ∷ b ∷ []) × FreeLink g p a b
   pub path : (a b : ℕ) → FreeLink g p a b → Augmenting g p 1 (a ∷ b ∷ [])
 
--- the augmenting paths of three links are the walks from a free load over a pair to another free load
+-- the augmenting paths of three links are the walks from a free load over a pair to another free
+-- load
 pub record OfThree (g : Graph) (p : Partners) : Type 0 where
   pub shape : (path : List ℕ) → Augmenting g p 3 path → (a : ℕ) × (x : ℕ) × (y : ℕ) × (z : ℕ) × (path ≡ a ∷ x ∷ y ∷ z ∷ []) × FreeWalk g p a x y z
   pub path : (a x y z : ℕ) → FreeWalk g p a x y z → Augmenting g p 3 (a ∷ x ∷ y ∷ z ∷ [])

@@ -1,5 +1,6 @@
 -- Entries, and the first one that breaks a rule.
-use Rattle.std.specs.Prelude.{ℕ, zero, suc, ◌-◌, min, Bool, cond, not, ◌&&◌, ◌||◌, List, Some, None, Option, ◌==◌, nat_le, nat_lt, slice_index_or}
+use Rattle.std.specs.Prelude.{ℕ, zero, suc, ◌-◌, min, Bool, cond, not, ◌&&◌, ◌||◌, List, Some, None}
+use Rattle.std.specs.Prelude.{Option, ◌==◌, nat_le, nat_lt, slice_index_or}
 use Rattle.graph.specs.Graph.{is_pair}
 use Rattle.link_list.specs.declared.Entry.{Entry}
 

@@ -1,5 +1,6 @@
 -- The graph of a list of entries, and when a list is refused.
-use Rattle.std.specs.Prelude.{◌≡◌, ℕ, zero, suc, ◌<◌, ◌≤◌, Bool, true, false, ◌||◌, List, [], ◌∷◌, length, Some, None, Option}
+use Rattle.std.specs.Prelude.{◌≡◌, ℕ, zero, suc, ◌<◌, ◌≤◌, Bool, true, false, ◌||◌, List, [], ◌∷◌}
+use Rattle.std.specs.Prelude.{length, Some, None, Option}
 use Rattle.graph.specs.Graph.{Graph, edgeless}
 use Rattle.links.specs.Books.{unless_size}
 use Rattle.links.specs.Refusals.{Reason}
@@ -7,7 +8,8 @@ use Rattle.links.specs.declared.refusal.Layer.TheVariants.{Book}
 use Rattle.rise.specs.Rise.{Rises}
 use Rattle.link_list.specs.declared.Entry.{Entry}
 use Rattle.link_list.specs.declared.LinkList.{LinkList}
-use Rattle.link_list.specs.Entries.{entry_before, in_bounds, joins, entry_at, out_of_bounds, unordered, first}
+use Rattle.link_list.specs.Entries.{entry_before, in_bounds, joins, entry_at, out_of_bounds}
+use Rattle.link_list.specs.Entries.{unordered, first}
 
 -- one of the first k entries is the link of x and y
 abbrev pub joined : List Entry → ℕ → ℕ → ℕ → Bool
@@ -34,7 +36,8 @@ abbrev pub bad_entry : Option ℕ → Option Reason
 bad_entry None = None
 bad_entry (Some index) = Some (record { number = 15; values = index ∷ []; layer = Book })
 
--- the first reason to refuse these entries: the number of loads, then the first entry that breaks the order or its bounds
+-- the first reason to refuse these entries: the number of loads, then the first entry that breaks
+-- the order or its bounds
 abbrev pub checking : ℕ → List Entry → Option Reason
 checking n es =
     unless_size n (bad_entry (first (length es) (λ k. unordered es k || out_of_bounds n es k)))

@@ -3,13 +3,15 @@
 
 ghost use Rattle.std.specs.Prelude.{◌≡◌, length};
 ghost use Rattle.links.specs.Refusals.{Answers};
-ghost use Rattle.link_list.specs.Entries.{in_bounds, joins, next_joined, touches, lower_of, first, out_of_bounds};
+ghost use Rattle.link_list.specs.Entries.{in_bounds, joins, next_joined, touches, lower_of, first};
+ghost use Rattle.link_list.specs.Entries.{out_of_bounds};
 ghost use Rattle.link_list.specs.Lists.{list_graph, ListMade, checking, Sound, Listing};
 
 use links::{Layer, Links, Refusal, Refused, check_size};
 use rise::first_unordered;
 
-// The link of the loads a and b, where a is the lower one. Entries are ordered by a, and then by b.
+/// The link of the loads a and b, where a is the lower one. Entries are ordered by a, and then by
+/// b.
 #[derive(Clone, Copy, PartialEq, Eq, PartialOrd, Ord, Debug)]
 pub struct Entry {
     pub a: u16,
@@ -68,7 +70,7 @@ fn first_out_of_bounds(size: usize, entries: &[Entry]) -> Option<usize>
     entries.iter().position(|link| !link.is_in_bounds(size))
 }
 
-// The links of the loads below a size, as entries that rise strictly.
+/// The links of the loads below a size, as entries that rise strictly.
 #[derive(Clone, Copy)]
 pub struct LinkList<'a> {
     size: usize,
@@ -76,7 +78,7 @@ pub struct LinkList<'a> {
 }
 
 impl<'a> LinkList<'a> {
-    // Whether a list can be made of these entries, for the loads below `size`.
+    /// Whether a list can be made of these entries, for the loads below `size`.
     pub fn check(size: usize, entries: &[Entry]) -> Result<(), Refused>
         ensures { Answers (checking size entries.now) result (λ _. Sound size entries.now) }
     {
@@ -87,7 +89,7 @@ impl<'a> LinkList<'a> {
         }
     }
 
-    // The list of these entries, or a list of no loads where the check refuses them.
+    /// The list of these entries, or a list of no loads where the check refuses them.
     pub fn new(size: usize, entries: &'a [Entry]) -> LinkList<'a>
         ensures made { ListMade result }
         ensures listing { Listing (checking size entries.now) size entries.now result }

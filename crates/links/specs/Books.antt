@@ -1,5 +1,6 @@
 -- What a book allows besides its links, and how it answers a change.
-use Rattle.std.specs.Prelude.{◌≡◌, ℕ, ◌+◌, ◌-◌, ◌<◌, ◌≤◌, Bool, true, cond, ◌||◌, [], Some, None, Option, Result, ◌==◌, nat_le, nat_lt}
+use Rattle.std.specs.Prelude.{◌≡◌, ℕ, ◌+◌, ◌-◌, ◌<◌, ◌≤◌, Bool, true, cond, ◌||◌, [], Some, None}
+use Rattle.std.specs.Prelude.{Option, Result, ◌==◌, nat_le, nat_lt}
 use Rattle.graph.specs.Graph.{Graph, link_count, added, removed}
 use Rattle.links.specs.declared.refusal.Layer.{Layer}
 use Rattle.links.specs.declared.refusal.Layer.TheVariants.{Book}

@@ -2,7 +2,12 @@
 use Rattle.std.specs.Prelude.{◌≡◌, ℕ, List, [], ◌∷◌, Some, None, Ok, Err, Option, Result}
 use Rattle.links.specs.declared.refusal.Layer.{Layer}
 use Rattle.links.specs.declared.refusal.Refusal.{Refusal}
-use Rattle.links.specs.declared.refusal.Refusal.TheVariants.{SizeOutOfRange, LimitOutOfRange, WrongLength, NoSuchLoad, SameLoad, AlreadyLinked, NotLinked, Barred, LoadFull, BookFull, NoPartner, UnknownCommand, CutShort, OutputTooShort, BadEntry}
+use Rattle.links.specs.declared.refusal.Refusal.TheVariants.{SizeOutOfRange, LimitOutOfRange}
+use Rattle.links.specs.declared.refusal.Refusal.TheVariants.{WrongLength, NoSuchLoad, SameLoad}
+use Rattle.links.specs.declared.refusal.Refusal.TheVariants.{AlreadyLinked, NotLinked, Barred}
+use Rattle.links.specs.declared.refusal.Refusal.TheVariants.{LoadFull, BookFull, NoPartner}
+use Rattle.links.specs.declared.refusal.Refusal.TheVariants.{UnknownCommand, CutShort}
+use Rattle.links.specs.declared.refusal.Refusal.TheVariants.{OutputTooShort, BadEntry}
 use Rattle.links.specs.declared.refusal.Refused.{Refused}
 
 -- the number of each refusal, and the values that go with it

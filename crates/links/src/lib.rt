@@ -4,7 +4,9 @@
 
 ghost use Rattle.std.specs.Prelude.{◌≡◌, None};
 ghost use Rattle.graph.specs.Graph.{Graph, Simple, degree, link_count, Next};
-ghost use Rattle.links.specs.Books.{Ledger, Bounded, Adds, Removes, unless_within, unless_size, unless_limit, unless_two_of, unless_open, unless_spares, unless_room, removing};
+ghost use Rattle.links.specs.Books.{Ledger, Bounded, Adds, Removes, unless_within, unless_size};
+ghost use Rattle.links.specs.Books.{unless_limit, unless_two_of, unless_open, unless_spares};
+ghost use Rattle.links.specs.Books.{unless_room, removing};
 ghost use Rattle.links.specs.Refusals.{Answers, told_by};
 
 mod output;

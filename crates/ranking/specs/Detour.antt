@@ -1,5 +1,6 @@
 -- The detour between the places of two loads.
-use Rattle.std.specs.Prelude.{◌≡◌, ℕ, ◌+◌, Bool, true, List, [], ◌∷◌, pos, negsuc, ◌-ℤ◌, slice_index_or, unsigned_abs}
+use Rattle.std.specs.Prelude.{◌≡◌, ℕ, ◌+◌, Bool, true, List, [], ◌∷◌, pos, negsuc, ◌-ℤ◌}
+use Rattle.std.specs.Prelude.{slice_index_or, unsigned_abs}
 use Rattle.ranking.specs.declared.detour.Place.{Place}
 use Rattle.ranking.specs.Order.{by_key}
 

@@ -1,4 +1,5 @@
-// The calls that bytes stand for: one byte for the kind of call, then each load in two bytes, the high one first.
+// The calls that bytes stand for: one byte for the kind of call, then each load in two bytes, the
+// high one first.
 ghost use Rattle.std.specs.Prelude.{◌≡◌, ◌<◌, ◌≤◌, length, IfSome, IfOk, OnOk, OnErr};
 
 use crate::pairing::Pairing;

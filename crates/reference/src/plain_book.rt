@@ -62,7 +62,8 @@ impl PlainBook {
         })
     }
 
-    // Bars a pair. A link that it has is hidden: it counts as no link, and keeps its part of the spares and the room.
+    // Bars a pair. A link that it has is hidden: it counts as no link, and keeps its part of the
+    // spares and the room.
     pub fn bar(&mut self, a: usize, b: usize) -> Result<(), AllocError>
         ensures size { vec_len self.new.spares ≡ vec_len self.old.spares }
         ensures limit { self.new.limit ≡ self.old.limit }
@@ -72,8 +73,9 @@ impl PlainBook {
         Ok(())
     }
 
-    // Bars the pairs of which bit j of byte i or bit i of byte j is 1, where i and j are the classes of the two loads. A class
-    // above 7 counts as 7, and a load that is given none has class 0.
+    // Bars the pairs of which bit j of byte i or bit i of byte j is 1, where i and j are the
+    // classes of the two loads. A class above 7 counts as 7, and a load that is given none has
+    // class 0.
     pub fn bar_classes(&mut self, classes: &[u8], bars: [u8; 8]) -> Result<(), AllocError>
         ensures size { vec_len self.new.spares ≡ vec_len self.old.spares }
         ensures limit { self.new.limit ≡ self.old.limit }

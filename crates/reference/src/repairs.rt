@@ -129,7 +129,8 @@ impl Pairing {
         }
     }
 
-    // Pairs a with a load whose partner has few links; the partner is freed, and a path sought from there.
+    // Pairs a with a load whose partner has few links; the partner is freed, and a path sought from
+    // there.
     fn displace(&mut self, a: usize)
         ensures { self.new.book ≡ self.old.book }
     {

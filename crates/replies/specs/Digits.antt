@@ -1,5 +1,6 @@
 -- Numbers in decimal digits, as bytes.
-use Rattle.std.specs.Prelude.{◌≡◌, ℕ, zero, suc, ◌+◌, ◌/◌, ◌%◌, ◌^◌, ◌<◌, cond, List, [], ◌∷◌, ◌++◌, length, nat_lt, slice_index_or}
+use Rattle.std.specs.Prelude.{◌≡◌, ℕ, zero, suc, ◌+◌, ◌/◌, ◌%◌, ◌^◌, ◌<◌, cond, List, [], ◌∷◌, ◌++◌}
+use Rattle.std.specs.Prelude.{length, nat_lt, slice_index_or}
 use Rattle.std.specs.Str.Parse.{AllDigits, digits_value}
 
 -- the last k decimal digits of a number, or all that it has
@@ -15,7 +16,8 @@ digits n = digits_in (suc n) n
 abbrev pub two_digits : ℕ → List ℕ
 two_digits n = (48 + n / 10) ∷ (48 + n % 10) ∷ []
 
--- bytes that are the decimal form of n: digits that read as n, of which the first is 0 only where it is the only one
+-- bytes that are the decimal form of n: digits that read as n, of which the first is 0 only where
+-- it is the only one
 pub record Decimal (n : ℕ) (bytes : List ℕ) : Type 0 where
   pub some : 0 < length bytes
   pub each : AllDigits 10 bytes

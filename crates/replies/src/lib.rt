@@ -12,10 +12,10 @@ use arrayvec::ArrayString;
 use itoa::Buffer;
 use links::{Refused, write_start};
 
-// No reply has a longer line.
+/// No reply has a longer line.
 pub const LONGEST_LINE: usize = 19;
 
-// No pair has a longer line.
+/// No pair has a longer line.
 pub const LONGEST_PAIR: usize = 8;
 
 /// What a step answers.
@@ -46,8 +46,8 @@ impl Reply {
     }
 }
 
-// A line with a number is made whole before it is written, so that nothing is where it does not fit.
-// Not a Display: formatting may fail, and a reply never does.
+// A line with a number is made whole before it is written, so that nothing is where it does not
+// fit. Not a Display: formatting may fail, and a reply never does.
 #[tactic(auto, using(crate::proofs::Digits::digits_are))]
 fn with_line(partner: u16) -> ArrayString<LONGEST_LINE>
     ensures bytes { result.bytes ≡ line (With partner) }
@@ -78,7 +78,8 @@ fn no_line(refused: Refused, place: u16) -> ArrayString<LONGEST_LINE>
     line
 }
 
-// Writes the line of two partners at the start of `out`, and answers its length. 8 bytes are enough for every two.
+/// Writes the line of two partners at the start of `out`, and answers its length. 8 bytes are
+/// enough for every two.
 #[tactic(auto, using(crate::proofs::Digits::digits_are))]
 pub fn write_pair(a: u8, b: u8, out: &mut [u8]) -> Result<usize, Refused>
     ensures writes { Writes (pair_line a b) out.old result out.new }
@@ -92,13 +93,14 @@ pub fn write_pair(a: u8, b: u8, out: &mut [u8]) -> Result<usize, Refused>
     write_start(line.as_bytes(), out)
 }
 
-// The decimal digits of a number read as that number and have no leading zeros; its two digits read as it too.
+/// The decimal digits of a number read as that number and have no leading zeros; its two digits
+/// read as it too.
 pub fn digits_are_decimal()
     ensures all { DigitsDecimal }
     ensures two { TwoDigitsDecimal }
 {}
 
-// Lines written out: each case of a reply, the longest line, and a pair.
+/// Lines written out: each case of a reply, the longest line, and a pair.
 pub fn worked_lines()
     ensures { WorkedLines }
 {}

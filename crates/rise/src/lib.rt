@@ -2,7 +2,8 @@
 #![tactic(auto)]
 
 ghost use Rattle.std.specs.Prelude.{◌≡◌, ◌<◌, length, IfSome, MatchOption};
-ghost use Rattle.rise.specs.Rise.{Rises, FirstUnordered, StrictTotal, Tied, comes_before, first_break};
+ghost use Rattle.rise.specs.Rise.{Rises, FirstUnordered, StrictTotal, Tied, comes_before};
+ghost use Rattle.rise.specs.Rise.{first_break};
 
 // The first index whose record does not come before the next.
 fn first_break<T: Ord>(records: &[T]) -> Option<usize>
@@ -15,7 +16,7 @@ fn first_break<T: Ord>(records: &[T]) -> Option<usize>
         .position(|(x, y)| x >= y)
 }
 
-// The first index whose record does not come after the record before it.
+/// The first index whose record does not come after the record before it.
 pub fn first_unordered<T: Ord>(records: &[T]) -> Option<usize>
     ensures first { MatchOption result (Rises (comes_before T.cmp) records.now) (λ i. FirstUnordered (comes_before T.cmp) records.now i) }
     ensures ordered { StrictTotal (Tied T.cmp) (comes_before T.cmp) }

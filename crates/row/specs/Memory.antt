@@ -1,5 +1,6 @@
 -- Memory in rows of d + 1 numbers, one row for each load.
-use Rattle.std.specs.Prelude.{◌≡◌, ℕ, ◌+◌, ◌*◌, ◌<◌, ◌≤◌, cond, List, [], ◌++◌, length, take, drop, nat_lt}
+use Rattle.std.specs.Prelude.{◌≡◌, ℕ, ◌+◌, ◌*◌, ◌<◌, ◌≤◌, cond, List, [], ◌++◌, length, take, drop}
+use Rattle.std.specs.Prelude.{nat_lt}
 use Rattle.row.specs.Row.{entries, Able, changed}
 use Rattle.row.specs.declared.Change.{Change}
 

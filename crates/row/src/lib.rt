@@ -3,7 +3,8 @@
 #![tactic(auto)]
 
 ghost use Rattle.std.specs.Prelude.{◌≡◌, ◌+◌, ◌*◌, ◌≤◌, length};
-ghost use Rattle.row.specs.Row.{entries, place, Insertable, row_with, Removable, row_without, Able, changed};
+ghost use Rattle.row.specs.Row.{entries, place, Insertable, row_with, Removable, row_without, Able};
+ghost use Rattle.row.specs.Row.{changed};
 ghost use Rattle.row.specs.Memory.{loads_of_row, RowChanged};
 
 /// What can be done with a load in a row.

@@ -1,5 +1,6 @@
 -- A link book in rows of d + 1 numbers, one row for each load.
-use Rattle.std.specs.Prelude.{◌≡◌, ℕ, ◌+◌, ◌-◌, ◌*◌, ◌<◌, ◌≤◌, true, false, cond, ◌&&◌, List, length, drop, is_ok, Some, None, Option, Result, nat_lt, slice_index}
+use Rattle.std.specs.Prelude.{◌≡◌, ℕ, ◌+◌, ◌-◌, ◌*◌, ◌<◌, ◌≤◌, true, false, cond, ◌&&◌, List}
+use Rattle.std.specs.Prelude.{length, drop, is_ok, Some, None, Option, Result, nat_lt, slice_index}
 use Rattle.std.specs.Borrow.{GName}
 use Rattle.graph.specs.Graph.{Graph, link_count, edgeless}
 use Rattle.links.specs.Books.{Ledger, by_book, unless_within, unless_size, unless_limit}

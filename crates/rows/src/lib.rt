@@ -7,7 +7,8 @@ ghost use Rattle.links.specs.Books.{Adds, Removes};
 ghost use Rattle.links.specs.Refusals.{Answers};
 ghost use Rattle.row.specs.Row.{row_with, row_without};
 ghost use Rattle.row.specs.Memory.{BothChanged};
-ghost use Rattle.rows.specs.Rows.{book_row, book_graph, book_ledger, BookMade, RowsFixed, rows_fixed, checking, Making, Written};
+ghost use Rattle.rows.specs.Rows.{book_row, book_graph, book_ledger, BookMade, RowsFixed};
+ghost use Rattle.rows.specs.Rows.{rows_fixed, checking, Making, Written};
 
 /// What holds of every made book in rows.
 pub mod theorems;

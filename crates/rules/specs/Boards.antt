@@ -1,11 +1,13 @@
 -- Boards played through by the rules, on fresh books and with the lower number first.
-use Rattle.std.specs.Prelude.{◌≡◌, ℕ, zero, suc, ◌+◌, ◌-◌, ◌%◌, ◌≤◌, Bool, false, cond, List, [], ◌∷◌, ◌++◌, Some, None, Option, ◌==◌, nat_lt}
+use Rattle.std.specs.Prelude.{◌≡◌, ℕ, zero, suc, ◌+◌, ◌-◌, ◌%◌, ◌≤◌, Bool, false, cond, List, []}
+use Rattle.std.specs.Prelude.{◌∷◌, ◌++◌, Some, None, Option, ◌==◌, nat_lt}
 use Rattle.graph.specs.Graph.{edgeless, degree}
 use Rattle.graph.specs.Matching.{Augmenting}
 use Rattle.links.specs.Books.{Ledger, by_book}
 use Rattle.links.specs.Refusals.{Reason}
 use Rattle.ranking.specs.Order.{lower}
-use Rattle.rules.specs.Calls.{Position, Call, link, unlink, withdraw, depart, ask_partner, reason, by_board, after, opened, pairs_of}
+use Rattle.rules.specs.Calls.{Position, Call, link, unlink, withdraw, depart, ask_partner, reason}
+use Rattle.rules.specs.Calls.{by_board, after, opened, pairs_of}
 use Rattle.rules.specs.Laws.{Proper}
 use Rattle.rules.specs.Repair.{Ranking, paired}
 use Rattle.rules.specs.Threshold.{threshold}
@@ -20,7 +22,13 @@ by_number a = lower
 
 -- the ledger of a book of n loads that has no links yet, and bars none
 abbrev pub fresh_ledger : ℕ → ℕ → Ledger
-fresh_ledger n limit = record { limit = limit; barred = λ _ _. false; spare = λ a. cond (nat_lt a n) (n - 1) 0; room = limit }
+fresh_ledger n limit =
+    record {
+      limit = limit;
+      barred = λ _ _. false;
+      spare = λ a. cond (nat_lt a n) (n - 1) 0;
+      room = limit;
+    }
 
 abbrev pub fresh : ℕ → ℕ → Position
 fresh n limit = opened by_number (edgeless n) (fresh_ledger n limit)
@@ -74,7 +82,8 @@ row = played row_calls (fresh 4 8)
 abbrev pub row_departed : Position
 row_departed = after by_number row (depart 1)
 
--- the second link leaves 0 free, the third makes a path of three links; after the departure one link and its pair are left
+-- the second link leaves 0 free, the third makes a path of three links; after the departure one
+-- link and its pair are left
 pub record Row : Type 0 where
   pub granted : answers row_calls (fresh 4 8) ≡ None ∷ None ∷ None ∷ []
   pub pairs : partners_in row ≡ Some 1 ∷ Some 0 ∷ Some 3 ∷ Some 2 ∷ []
@@ -124,7 +133,8 @@ pub record Star : Type 0 where
   pub free : star.partners 0 ≡ None
   pub links : degree star.graph 0 ≡ 4
   pub links_once_more : reason star (link 0 5) ≡ None
-  pub pairs : partners_in star_heavy ≡ Some 1 ∷ Some 0 ∷ None ∷ Some 4 ∷ Some 3 ∷ Some 6 ∷ Some 5 ∷ []
+  pub pairs : partners_in star_heavy ≡ Some 1 ∷ Some 0 ∷ None ∷ Some 4 ∷ Some 3 ∷ Some 6 ∷ Some 5
+      ∷ []
 
 -- ---- rankings of their own
 
@@ -147,7 +157,10 @@ pub record Refusals : Type 0 where
   pub same_load : reason row (link 2 2) ≡ by_board 5
   pub linked_already : reason row (link 2 1) ≡ by_book 6
   pub not_linked : reason row (unlink 0 3) ≡ by_book 7
-  pub no_spare : answers (link 0 1 ∷ link 0 2 ∷ []) (opened by_number (edgeless 3) (record { limit = 3; barred = λ _ _. false; spare = λ _. 1; room = 3 })) ≡ None ∷ by_book 9 ∷ []
+  pub no_spare :
+      answers (link 0 1 ∷ link 0 2 ∷ []) (opened by_number (edgeless 3)
+      (record { limit = 3; barred = λ _ _. false; spare = λ _. 1; room = 3 }))
+      ≡ None ∷ by_book 9 ∷ []
   pub no_room : answers (link 0 1 ∷ link 2 3 ∷ []) (fresh 4 1) ≡ None ∷ by_book 10 ∷ []
   pub partner_of_none : reason row (ask_partner 4) ≡ by_board 4
   pub withdraws_free : reason (fresh 4 8) (withdraw 0) ≡ None

@@ -1,5 +1,6 @@
 -- What a board holds, and what each call answers and leaves.
-use Rattle.std.specs.Prelude.{ℕ, zero, suc, ◌+◌, Bool, true, false, cond, ◌&&◌, List, [], ◌∷◌, Some, None, Option, ◌==◌, nat_le, nat_lt}
+use Rattle.std.specs.Prelude.{ℕ, zero, suc, ◌+◌, Bool, true, false, cond, ◌&&◌, List, [], ◌∷◌, Some}
+use Rattle.std.specs.Prelude.{None, Option, ◌==◌, nat_le, nat_lt}
 use Rattle.graph.specs.Graph.{Graph, count, degree, added, removed}
 use Rattle.graph.specs.Isolated.{isolated}
 use Rattle.graph.specs.Matching.{Partners}
@@ -17,8 +18,8 @@ pub record Position : Type 0 where
   pub ledger : Ledger
   pub partners : Partners
 
--- the changes, and the questions: the partner of a load, how many free loads it is linked to, the smallest of these at or
--- above a number, and how many pairs there are
+-- the changes, and the questions: the partner of a load, how many free loads it is linked to, the
+-- smallest of these at or above a number, and how many pairs there are
 pub data Call : Type 0 where
   link : ℕ → ℕ → Call
   unlink : ℕ → ℕ → Call
@@ -74,7 +75,8 @@ free_links_of x a = count x.graph.size (free_link x.graph x.partners a)
 
 -- the smallest free load at or above `from` that a is linked to
 abbrev pub next_free_of : Position → ℕ → ℕ → Option ℕ
-next_free_of x a from = first lower x.graph.size (λ z. free_link x.graph x.partners a z && nat_le from z)
+next_free_of x a from =
+    first lower x.graph.size (λ z. free_link x.graph x.partners a z && nat_le from z)
 
 abbrev pub pairs_of : Position → ℕ
 pairs_of x = pairs x.graph.size x.partners
@@ -137,18 +139,22 @@ abbrev pub released_two : Graph → Ledger → ℕ → Option ℕ → Ledger
 released_two g l a None = released g l a
 released_two g l a (Some b) = released (isolated g a) (released g l a) b
 
--- the position with another graph and ledger, its partners changed and then repaired at a set of loads
+-- the position with another graph and ledger, its partners changed and then repaired at a set of
+-- loads
 abbrev pub repaired : Ranking → Graph → Ledger → List ℕ → Partners → Position
-repaired before g l s p = record { graph = g; ledger = l; partners = repair before (threshold l.limit) g s p }
+repaired before g l s p =
+    record { graph = g; ledger = l; partners = repair before (threshold l.limit) g s p }
 
 -- the position after a call that is granted
 abbrev pub granted : Ranking → Position → Call → Position
 granted before x (link a b) =
     repaired before (added x.graph a b) (lowered x.ledger a b) (in_order a b) x.partners
 granted before x (unlink a b) =
-    repaired before (removed x.graph a b) (raised x.ledger a b) (in_order a b) (parted a b x.partners (x.partners a))
+    repaired before (removed x.graph a b) (raised x.ledger a b) (in_order a b)
+    (parted a b x.partners (x.partners a))
 granted before x (withdraw a) =
-    repaired before (isolated x.graph a) (released x.graph x.ledger a) (the_one (x.partners a)) (parted_from a x.partners (x.partners a))
+    repaired before (isolated x.graph a) (released x.graph x.ledger a) (the_one (x.partners a))
+    (parted_from a x.partners (x.partners a))
 granted before x (depart a) = record {
   graph = isolated_two x.graph a (x.partners a);
   ledger = released_two x.graph x.ledger a (x.partners a);

@@ -1,5 +1,6 @@
 -- What holds of a position at each moment, and between two.
-use Rattle.std.specs.Prelude.{◌≡◌, ℕ, ◌+◌, ◌*◌, ◌<◌, ◌≤◌, Bool, true, false, not, Some, None, Option, ◌==◌}
+use Rattle.std.specs.Prelude.{◌≡◌, ℕ, ◌+◌, ◌*◌, ◌<◌, ◌≤◌, Bool, true, false, not, Some, None}
+use Rattle.std.specs.Prelude.{Option, ◌==◌}
 use Rattle.graph.specs.Graph.{Graph, Simple, count, degree, link_count}
 use Rattle.graph.specs.Matching.{Partners, Free, Matching, NoAugmenting}
 use Rattle.graph.specs.Pairs.{pairs}
@@ -7,7 +8,8 @@ use Rattle.links.specs.Books.{Bounded}
 use Rattle.rules.specs.Calls.{Position}
 use Rattle.rules.specs.Threshold.{threshold}
 
--- a matching without augmenting paths of one or three links, in which every free load has at most t links
+-- a matching without augmenting paths of one or three links, in which every free load has at most t
+-- links
 pub record Healthy (g : Graph) (t : ℕ) (p : Partners) : Type 0 where
   pub matching : Matching g p
   pub no_path_of_one : NoAugmenting g p 1
@@ -22,7 +24,9 @@ pub record Sound (x : Position) : Type 0 where
 
 -- at least two thirds of the pairs of every matching
 abbrev pub TwoThirds : Position → Type 0
-TwoThirds x = (q : Partners) → Matching x.graph q → 2 * pairs x.graph.size q ≤ 3 * pairs x.graph.size x.partners
+TwoThirds x =
+    (q : Partners) → Matching x.graph q →
+    2 * pairs x.graph.size q ≤ 3 * pairs x.graph.size x.partners
 
 -- from x to y: size, limit and barred pairs are the same, and spares and room follow each link
 pub record Follows (x y : Position) : Type 0 where

@@ -3,7 +3,8 @@ use Rattle.std.specs.Prelude.{◌≡◌, ℕ, ◌+◌, ◌≤◌, Some, None, Op
 use Rattle.graph.specs.Graph.{Graph, Simple, link_count}
 use Rattle.links.specs.Books.{Ledger, Bounded}
 use Rattle.links.specs.Refusals.{Reason}
-use Rattle.rules.specs.Calls.{Position, Call, link, unlink, withdraw, depart, ask_partner, ask_free_links, ask_next_free, ask_pairs, reason, after, opened}
+use Rattle.rules.specs.Calls.{Position, Call, link, unlink, withdraw, depart, ask_partner}
+use Rattle.rules.specs.Calls.{ask_free_links, ask_next_free, ask_pairs, reason, after, opened}
 use Rattle.rules.specs.Health.{Sound, TwoThirds, Follows, changes}
 use Rattle.rules.specs.Repair.{Ranking}
 
@@ -27,11 +28,13 @@ allowed (Some r) c = 0
 
 -- opening on a book gives a sound position
 abbrev pub OpeningSound : Type 0
-OpeningSound = (before : Ranking) (g : Graph) (l : Ledger) → Simple g → Bounded g l → Sound (opened before g l)
+OpeningSound =
+    (before : Ranking) (g : Graph) (l : Ledger) → Simple g → Bounded g l → Sound (opened before g l)
 
 -- size, limit and barred pairs never change, and spares and room follow each link
 abbrev pub CallsFollow : Type 0
-CallsFollow = (before : Ranking) (x : Position) → Sound x → (c : Call) → Follows x (after before x c)
+CallsFollow =
+    (before : Ranking) (x : Position) → Sound x → (c : Call) → Follows x (after before x c)
 
 -- the book has kept its links within the limit
 abbrev pub Within : Ranking → Position → Call → Type 0
@@ -44,7 +47,9 @@ pub record KeepsSound (x : Position) (c : Call) (y : Position) : Type 0 where
 
 -- every call keeps a position sound and changes few partners
 abbrev pub CallsKeep : Type 0
-CallsKeep = (before : Ranking) (x : Position) → Sound x → (c : Call) → Within before x c → KeepsSound x c (after before x c)
+CallsKeep =
+    (before : Ranking) (x : Position) → Sound x → (c : Call) → Within before x c →
+    KeepsSound x c (after before x c)
 
 -- a sound position has at least two thirds of the pairs of every matching
 abbrev pub SoundTwoThirds : Type 0
@@ -52,11 +57,14 @@ SoundTwoThirds = (x : Position) → Sound x → TwoThirds x
 
 -- a refused call leaves everything as it was
 abbrev pub RefusedUnchanged : Type 0
-RefusedUnchanged = (before : Ranking) (x : Position) (c : Call) (r : Reason) → reason x c ≡ Some r → after before x c ≡ x
+RefusedUnchanged =
+    (before : Ranking) (x : Position) (c : Call) (r : Reason) → reason x c ≡ Some r →
+    after before x c ≡ x
 
 -- ---- runs
 
--- a book whose links and room together are within its limit; a bounded ledger alone may promise more room than that
+-- a book whose links and room together are within its limit; a bounded ledger alone may promise
+-- more room than that
 pub record Proper (g : Graph) (l : Ledger) : Type 0 where
   pub simple : Simple g
   pub bounded : Bounded g l
@@ -74,7 +82,10 @@ pub record Moment (before : Ranking) (start x : Position) : Type 0 where
   pub follows : Follows start x
   pub few : (c : Call) → changes x (after before x c) ≤ allowed (reason x c) c
 
--- from an opening on any proper book, by any calls: each moment is sound and has two thirds of the pairs of every matching,
--- its spares and room have followed the links, and the next call changes few partners
+-- from an opening on any proper book, by any calls: each moment is sound and has two thirds of the
+-- pairs of every matching, its spares and room have followed the links, and the next call changes
+-- few partners
 abbrev pub LawOfRuns : Type 0
-LawOfRuns = (before : Ranking) (g : Graph) (l : Ledger) → Proper g l → (x : Position) → Run before (opened before g l) x → Moment before (opened before g l) x
+LawOfRuns =
+    (before : Ranking) (g : Graph) (l : Ledger) → Proper g l → (x : Position) →
+    Run before (opened before g l) x → Moment before (opened before g l) x

@@ -13,12 +13,14 @@ stripped g a (suc k) = cond (g.linked a k) (removed (stripped g a k) a k) (strip
 -- the ledger raised for each of them
 abbrev pub stripped_ledger : Graph → Ledger → ℕ → ℕ → Ledger
 stripped_ledger g l a zero = l
-stripped_ledger g l a (suc k) = cond (g.linked a k) (raised (stripped_ledger g l a k) a k) (stripped_ledger g l a k)
+stripped_ledger g l a (suc k) =
+    cond (g.linked a k) (raised (stripped_ledger g l a k) a k) (stripped_ledger g l a k)
 
 pub record OneByOne (g : Graph) (l : Ledger) (a : ℕ) : Type 0 where
   pub graph : stripped g a g.size ≡ isolated g a
   pub ledger : stripped_ledger g l a g.size ≡ released g l a
 
--- removing the links of a load one by one leaves the graph without them, and the ledger raised for each
+-- removing the links of a load one by one leaves the graph without them, and the ledger raised for
+-- each
 abbrev pub LinksOneByOne : Type 0
 LinksOneByOne = (g : Graph) → Simple g → (l : Ledger) (a : ℕ) → OneByOne g l a

@@ -1,5 +1,6 @@
 -- How a matching is repaired at a set of loads.
-use Rattle.std.specs.Prelude.{ℕ, zero, suc, Bool, false, cond, not, ◌&&◌, ◌||◌, List, [], ◌∷◌, Some, None, Option, ◌==◌, nat_le, nat_lt}
+use Rattle.std.specs.Prelude.{ℕ, zero, suc, Bool, false, cond, not, ◌&&◌, ◌||◌, List, [], ◌∷◌, Some}
+use Rattle.std.specs.Prelude.{None, Option, ◌==◌, nat_le, nat_lt}
 use Rattle.graph.specs.Graph.{Graph, degree}
 use Rattle.graph.specs.Matching.{Partners}
 use Rattle.graph.specs.Pairs.{is_free}
@@ -53,7 +54,8 @@ module _ (g : Graph) where
 module _ (before : Ranking) (g : Graph) where
   -- a free load takes the first of the free loads that it is linked to
   abbrev pub match_free : ℕ → Partners → Partners
-  match_free a p = cond (is_free p a) (paired_found a (first (before a) g.size (free_link g p a)) p) p
+  match_free a p =
+      cond (is_free p a) (paired_found a (first (before a) g.size (free_link g p a)) p) p
 
   -- the first x such that an augmenting path of three links begins with a, x
   abbrev pub path_start_of : Partners → ℕ → Option ℕ
@@ -62,7 +64,8 @@ module _ (before : Ranking) (g : Graph) where
   -- the pairs a, x and y, z in place of x, y, where z is the first that ends a path
   abbrev pub exchanged : Partners → ℕ → ℕ → Option ℕ → Partners
   exchanged p a x None = p
-  exchanged p a x (Some y) = paired_found y (first (before y) g.size (ends_path g p a (Some y))) (paired a x p)
+  exchanged p a x (Some y) =
+      paired_found y (first (before y) g.size (ends_path g p a (Some y))) (paired a x p)
 
   abbrev pub augmented_from : Partners → ℕ → Option ℕ → Partners
   augmented_from p a None = p

@@ -19,7 +19,8 @@ pub record Leads (before : ℕ → ℕ → Bool) (n : ℕ) (test : ℕ → Bool)
   pub leads : (y : ℕ) → y < n → test y ≡ true → (y ≢ x) → before x y ≡ true
 
 -- the answer is the one number that leads, and there is none just where none passes
-pub record FirstIs (before : ℕ → ℕ → Bool) (n : ℕ) (test : ℕ → Bool) (answer : Option ℕ) : Type 0 where
+pub record FirstIs (before : ℕ → ℕ → Bool) (n : ℕ) (test : ℕ → Bool)
+    (answer : Option ℕ) : Type 0 where
   pub some : (x : ℕ) → answer ≡ Some x → Leads before n test x
   pub only : (x : ℕ) → Leads before n test x → answer ≡ Some x
   pub none : answer ≡ None → (x : ℕ) → x < n → test x ≡ false
@@ -27,4 +28,6 @@ pub record FirstIs (before : ℕ → ℕ → Bool) (n : ℕ) (test : ℕ → Boo
 
 -- in every strict order
 abbrev pub FirstLeads : Type 0
-FirstLeads = (before : ℕ → ℕ → Bool) → StrictOrder before → (n : ℕ) (test : ℕ → Bool) → FirstIs before n test (first before n test)
+FirstLeads =
+    (before : ℕ → ℕ → Bool) → StrictOrder before → (n : ℕ) (test : ℕ → Bool) →
+    FirstIs before n test (first before n test)

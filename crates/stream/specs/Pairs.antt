@@ -1,5 +1,6 @@
 -- The list of the pairs of a board.
-use Rattle.std.specs.Prelude.{◌≡◌, ℕ, zero, suc, ◌*◌, ◌≤◌, cond, List, [], ◌++◌, length, drop, Some, None, IfOk, IfErr, Option, Result, nat_lt}
+use Rattle.std.specs.Prelude.{◌≡◌, ℕ, zero, suc, ◌*◌, ◌≤◌, cond, List, [], ◌++◌, length, drop, Some}
+use Rattle.std.specs.Prelude.{None, IfOk, IfErr, Option, Result, nat_lt}
 use Rattle.graph.specs.Matching.{Partners}
 use Rattle.links.specs.Books.{by}
 use Rattle.links.specs.Refusals.{Reason, Answers, Kept, told}
@@ -29,10 +30,11 @@ too_short = by Stream 14
 abbrev pub listing : Position → List ℕ → Option Reason
 listing x out = cond (nat_lt (length out) (8 * pairs_of x)) too_short None
 
--- how the pairs of a board are listed at the start of the output `from`. On every board: refused, which it is with 14 alone,
--- the output stays as it was, and granted, all that lies past the length that is answered. Where the board stands, at the
--- position x, the lines are those of its pairs
-pub record Lists (Standing : Type 0) (x : Position) (from : List ℕ) (r : Result ℕ Refused) (out : List ℕ) : Type 0 where
+-- how the pairs of a board are listed at the start of the output `from`. On every board: refused,
+-- which it is with 14 alone, the output stays as it was, and granted, all that lies past the length
+-- that is answered. Where the board stands, at the position x, the lines are those of its pairs
+pub record Lists (Standing : Type 0) (x : Position) (from : List ℕ) (r : Result ℕ Refused)
+    (out : List ℕ) : Type 0 where
   pub kept : Kept r from out
   pub refused : IfErr r (λ e. too_short ≡ Some (told e))
   pub granted : IfOk r (λ n. (n ≤ length from) × (drop n out ≡ drop n from))

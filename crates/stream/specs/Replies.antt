@@ -42,9 +42,11 @@ abbrev pub on_granted : {A C : Type 0} → (A → C) → Result A Refused → Re
 on_granted f (Ok v) = Ok (f v)
 on_granted f (Err e) = Err e
 
--- the board s carries out the command c by its own call, and is t after it; r is the reply to what that call answered
-pub record CarriesOut {B R F : Type 0} (graph : B → Graph) (made : B → Type 0) (ledger : B → Ledger) (fixed : B → F)
-    (before : R → Ranking) (s : Board B R) (c : Command) (r : Result Reply Refused) (t : Board B R) : Type 0 where
+-- the board s carries out the command c by its own call, and is t after it; r is the reply to what
+-- that call answered
+pub record CarriesOut {B R F : Type 0} (graph : B → Graph) (made : B → Type 0)
+    (ledger : B → Ledger) (fixed : B → F) (before : R → Ranking) (s : Board B R) (c : Command)
+    (r : Result Reply Refused) (t : Board B R) : Type 0 where
   pub answered : Result (Answer (call_of c)) Refused
   pub steps : Steps graph made ledger fixed before s (call_of c) answered t
   pub reply_is : r ≡ on_granted (reply_to c) answered

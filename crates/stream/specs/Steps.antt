@@ -1,5 +1,7 @@
--- How a stream of commands is played on a board, a command at a time, and the lines that are answered.
-use Rattle.std.specs.Prelude.{◌≡◌, ℕ, ◌+◌, ◌≤◌, cond, List, [], ◌++◌, length, drop, Some, None, IfOk, codes, Option, Result, nat_le, nat_lt}
+-- How a stream of commands is played on a board, a command at a time, and the lines that are
+-- answered.
+use Rattle.std.specs.Prelude.{◌≡◌, ℕ, ◌+◌, ◌≤◌, cond, List, [], ◌++◌, length, drop, Some, None}
+use Rattle.std.specs.Prelude.{IfOk, codes, Option, Result, nat_le, nat_lt}
 use Rattle.graph.specs.Graph.{Graph}
 use Rattle.links.specs.Books.{Ledger, by}
 use Rattle.links.specs.Refusals.{Reason, Answers, Kept}
@@ -15,7 +17,8 @@ use Rattle.replies.specs.Lines.{words, line, refusal_words}
 use Rattle.stream.specs.Replies.{call_of, reply_to, reply_at}
 use Rattle.stream.specs.declared.Stepped.{Stepped}
 
--- what stands at a place of a stream: its end, bytes that are no command, for a reason, or a command
+-- what stands at a place of a stream: its end, bytes that are no command, for a reason, or a
+-- command
 pub data Found : Type 0 where
   at_end : Found
   no_command : Reason → Found
@@ -69,23 +72,27 @@ abbrev pub stepping : List ℕ → List ℕ → Option Reason
 stepping stream out =
     unless_short stream (cond (nat_lt (length out) 19) (by Stream 14) None)
 
--- a line was written at the start of the output `from`, and its length answered with the place after the step
-pub record WritesLine (line : List ℕ) (place : ℕ) (from : List ℕ) (r : Stepped) (out : List ℕ) : Type 0 where
+-- a line was written at the start of the output `from`, and its length answered with the place
+-- after the step
+pub record WritesLine (line : List ℕ) (place : ℕ) (from : List ℕ) (r : Stepped)
+    (out : List ℕ) : Type 0 where
   pub place_is : r.place ≡ place
   pub written_is : r.written ≡ length line
   pub out_is : out ≡ line ++ drop (length line) from
   pub short : length line ≤ 19
 
-module _ {B R F : Type 0} (graph : B → Graph) (made : B → Type 0) (ledger : B → Ledger) (fixed : B → F)
-    (before : R → Ranking) where
-  -- the command c at a place was answered by the board's own call, and the reply to that answer was written
-  pub record Plays (s : Board B R) (c : Command) (place : ℕ) (from : List ℕ) (r : Stepped) (t : Board B R)
-      (out : List ℕ) : Type 0 where
+module _ {B R F : Type 0} (graph : B → Graph) (made : B → Type 0) (ledger : B → Ledger)
+    (fixed : B → F) (before : R → Ranking) where
+  -- the command c at a place was answered by the board's own call, and the reply to that answer was
+  -- written
+  pub record Plays (s : Board B R) (c : Command) (place : ℕ) (from : List ℕ) (r : Stepped)
+      (t : Board B R) (out : List ℕ) : Type 0 where
     pub answered : Result (Answer (call_of c)) Refused
     pub steps : BoardSteps graph made ledger fixed before s (call_of c) answered t
     pub writes : WritesLine (line (reply_at c place answered)) (place + length (bytes c)) from r out
 
-  -- a step by what stands at the place: at the end and where it is no command the board stays as it was
+  -- a step by what stands at the place: at the end and where it is no command the board stays as it
+  -- was
   abbrev pub Takes : Found → Board B R → ℕ → List ℕ → Stepped → Board B R → List ℕ → Type 0
   Takes at_end s place from r t out = (t ≡ s) × WritesLine [] place from r out
   Takes (no_command why) s place from r t out =
@@ -93,18 +100,20 @@ module _ {B R F : Type 0} (graph : B → Graph) (made : B → Type 0) (ledger : 
   Takes (command c) s place from r t out = Plays s c place from r t out
 
   -- a step y of the rules was made, and the board t stands at its position
-  pub record Makes (y : Step) (from : List ℕ) (r : Stepped) (t : Board B R) (out : List ℕ) : Type 0 where
+  pub record Makes (y : Step) (from : List ℕ) (r : Stepped) (t : Board B R)
+      (out : List ℕ) : Type 0 where
     pub writes : WritesLine y.line y.place from r out
     pub position_is : position graph ledger t ≡ y.position
     pub stands : Stands graph made ledger t
 
-  -- how a step on the board s and the output `from` is answered r, and leaves the board t and the output `out`. Refused, it
-  -- leaves both as they were
-  pub record Steps (s : Board B R) (stream : List ℕ) (place : ℕ) (from : List ℕ) (r : Result Stepped Refused)
-      (t : Board B R) (out : List ℕ) : Type 0 where
+  -- how a step on the board s and the output `from` is answered r, and leaves the board t and the
+  -- output `out`. Refused, it leaves both as they were
+  pub record Steps (s : Board B R) (stream : List ℕ) (place : ℕ) (from : List ℕ)
+      (r : Result Stepped Refused) (t : Board B R) (out : List ℕ) : Type 0 where
     pub board_kept : Kept r s t
     pub out_kept : Kept r from out
     pub answers : Answers (stepping stream from) r
         (λ p. Takes (found_at stream place) s place from p t out)
     pub by_rules : Stands graph made ledger s → IfOk r
-        (λ p. Makes (step_at (before s.ranking) (position graph ledger s) stream place) from p t out)
+        (λ p. Makes
+        (step_at (before s.ranking) (position graph ledger s) stream place) from p t out)

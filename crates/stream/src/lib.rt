@@ -46,10 +46,8 @@ fn partner_reply(partner: Option<usize>) -> Reply
 
 // Makes the call that a command asks for, and answers the reply to it.
 fn play<B: Book, R: Ranking>(board: &mut Board<B, R>, command: Command) -> Result<Reply, Refused>
-    ensures {
-        CarriesOut B.Links.graph B.Links.made B.Book.ledger B.Book.fixed R.Ranking.before
-        board.old command result board.new
-    }
+    ensures { CarriesOut B.Links.graph B.Links.made B.Book.ledger B.Book.fixed R.Ranking.before
+        board.old command result board.new }
 {
     match command {
         Command::Link(a, b) => done(board.link(usize::from(a), usize::from(b))),
@@ -70,19 +68,18 @@ fn check_step(stream: &[u8], out: &[u8]) -> Result<(), Refused>
     Ok(())
 }
 
-/// Plays the command at a place of the stream, and writes the line that answers it at the start of `out`. At or past the end
-/// it does nothing; after 12 and 13, where the bytes are no command, the place stays. Refused with 3 (stream) where the stream
-/// has more than 65,536 bytes, then with 14 (stream) where `out` has fewer than 19; then nothing is changed or written.
+/// Plays the command at a place of the stream, and writes the line that answers it at the start of
+/// `out`. At or past the end it does nothing; after 12 and 13, where the bytes are no command, the
+/// place stays. Refused with 3 (stream) where the stream has more than 65,536 bytes, then with 14
+/// (stream) where `out` has fewer than 19; then nothing is changed or written.
 pub fn step<B: Book, R: Ranking>(
     board: &mut Board<B, R>,
     stream: &[u8],
     place: usize,
     out: &mut [u8],
 ) -> Result<Stepped, Refused>
-    ensures {
-        Steps B.Links.graph B.Links.made B.Book.ledger B.Book.fixed R.Ranking.before
-        board.old stream.now place out.old result board.new out.new
-    }
+    ensures { Steps B.Links.graph B.Links.made B.Book.ledger B.Book.fixed R.Ranking.before
+        board.old stream.now place out.old result board.new out.new }
 {
     check_step(stream, out)?;
     let (next, answer) = match read(stream, place) {
@@ -112,17 +109,16 @@ fn write_lower(a: usize, partner: Option<usize>, out: &mut [u8]) -> Result<usize
     }
 }
 
-/// Writes a line for each pair at the start of `out`, the lower load first, in the order of the lower loads, and answers how
-/// many bytes they have. Refused with 14 (stream) where `out` has fewer than 8 bytes for each pair; nothing is written then.
-/// On a board that did not come from opening, lines that do not fit are refused in the same way.
+/// Writes a line for each pair at the start of `out`, the lower load first, in the order of the
+/// lower loads, and answers how many bytes they have. Refused with 14 (stream) where `out` has
+/// fewer than 8 bytes for each pair; nothing is written then. On a board that did not come from
+/// opening, lines that do not fit are refused in the same way.
 pub fn list_pairs<B: Book, R: Ranking>(
     board: &Board<B, R>,
     out: &mut [u8],
 ) -> Result<usize, Refused>
-    ensures {
-        Lists (Stands B.Links.graph B.Links.made B.Book.ledger board.now)
-        (position B.Links.graph B.Book.ledger board.now) out.old result out.new
-    }
+    ensures { Lists (Stands B.Links.graph B.Links.made B.Book.ledger board.now)
+        (position B.Links.graph B.Book.ledger board.now) out.old result out.new }
 {
     if out.len() / LONGEST_PAIR < board.pairs() {
         return Err(Refusal::OutputTooShort.by(Layer::Stream));

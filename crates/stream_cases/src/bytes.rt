@@ -15,7 +15,8 @@ fn check_refused(rt: &impl Abort, stream: &[u8], place: usize, refusal: Refusal)
     assert_eq!(rt; read(stream, place), Err(refusal.by(Layer::Stream)));
 }
 
-// A command is written as these bytes, and read back where they begin a stream and where they end it.
+// A command is written as these bytes, and read back where they begin a stream and where they end
+// it.
 fn both_ways(rt: &impl Abort, command: Command, bytes: &[u8]) {
     let n = bytes.len();
     assert!(rt; n <= 8);
@@ -41,7 +42,8 @@ fn loads(rt: HostRuntime) {
     }
 }
 
-// Writes a command to an output of sevens, and compares what is answered and what the output then holds.
+// Writes a command to an output of sevens, and compares what is answered and what the output then
+// holds.
 fn check_write<const N: usize>(
     rt: &impl Abort,
     command: Command,
@@ -53,7 +55,8 @@ fn check_write<const N: usize>(
     assert_eq!(rt; out, expected);
 }
 
-// An output one byte short stays as it was, one that is just long enough is filled, and bytes beyond the command stay.
+// An output one byte short stays as it was, one that is just long enough is filled, and bytes
+// beyond the command stay.
 #[test]
 fn outputs(rt: HostRuntime) {
     let refused = Err(Refusal::OutputTooShort.by(Layer::Stream));
@@ -96,7 +99,8 @@ fn in_a_row(rt: HostRuntime) {
     }
 }
 
-// The last bytes of a stream of fives: a question for load 5 × 256 + 5, one that is cut short, and the end.
+// The last bytes of a stream of fives: a question for load 5 × 256 + 5, one that is cut short, and
+// the end.
 fn check_fives(rt: &impl Abort, stream: &[u8]) {
     let n = stream.len();
     assert!(rt; 3 <= n);

@@ -34,8 +34,8 @@ pub fn check_pairs<B: Book, R: Ranking>(
     Ok(())
 }
 
-// Plays a stream on a board opened on this book, a step for each line, and then compares the pairs. A step past the last
-// command answers the empty line.
+// Plays a stream on a board opened on this book, a step for each line, and then compares the pairs.
+// A step past the last command answers the empty line.
 pub fn check_play<B: Book + Drop>(
     rt: &impl Abort,
     book: B,

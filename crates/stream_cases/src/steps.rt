@@ -25,8 +25,8 @@ fn check_step<B: Book, R: Ranking, const N: usize>(
     assert_eq!(rt; out, expected);
 }
 
-// An output of 18 bytes is refused, whatever the line would be; at the end of the stream and past it nothing happens. So
-// the link is made only then, and 19 bytes are enough.
+// An output of 18 bytes is refused, whatever the line would be; at the end of the stream and past
+// it nothing happens. So the link is made only then, and 19 bytes are enough.
 #[test]
 fn outputs(rt: HostRuntime) {
     let mut words = [0u64; 4];
@@ -62,7 +62,8 @@ fn longest(rt: HostRuntime) -> Result<(), Fail> {
     Ok(())
 }
 
-// Lists the pairs in an output of dots, and compares what is answered and what the output then holds.
+// Lists the pairs in an output of dots, and compares what is answered and what the output then
+// holds.
 fn check_list<B: Book, R: Ranking, const N: usize>(
     rt: &impl Abort,
     board: &Board<B, R>,
@@ -88,7 +89,8 @@ fn check_lists<B: Book + Drop>(rt: &impl Abort, book: B) -> Result<(), Fail> {
     Ok(())
 }
 
-// A list needs 8 bytes for each pair, though its lines may be shorter, and none where there is no pair.
+// A list needs 8 bytes for each pair, though its lines may be shorter, and none where there is no
+// pair.
 #[test]
 fn lists(rt: HostRuntime) -> Result<(), Fail> {
     let mut words = [0u64; 1024];

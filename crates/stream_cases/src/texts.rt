@@ -285,7 +285,8 @@ fn one_byte_more(rt: HostRuntime) -> Result<(), Fail> {
     Ok(())
 }
 
-// Streams with a byte that begins no command, or that end inside a command, and the place of its first byte.
+// Streams with a byte that begins no command, or that end inside a command, and the place of its
+// first byte.
 const BAD_STREAMS: [(&[u8], Refusal, usize); 16] = [
     (&[0], Refusal::UnknownCommand, 0),
     (&[6], Refusal::UnknownCommand, 0),

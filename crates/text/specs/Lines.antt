@@ -1,5 +1,6 @@
 -- The command of a line.
-use Rattle.std.specs.Prelude.{◌≡◌, ℕ, Bool, cond, ◌||◌, List, Some, None, Ok, Err, codes, Option, Result, ◌==◌, slice_index}
+use Rattle.std.specs.Prelude.{◌≡◌, ℕ, Bool, cond, ◌||◌, List, Some, None, Ok, Err, codes, Option}
+use Rattle.std.specs.Prelude.{Result, ◌==◌, slice_index}
 use Rattle.std.specs.Str.{bytes_eq}
 use Rattle.commands.specs.declared.Command.{Command}
 use Rattle.commands.specs.declared.Command.TheVariants.{Link, Unlink, Withdraw, Depart, Partner}

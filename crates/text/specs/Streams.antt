@@ -1,5 +1,7 @@
 -- Whole texts and the streams that they stand for.
-use Rattle.std.specs.Prelude.{◌≡◌, ℕ, ◌+◌, ◌<◌, ◌≤◌, true, false, List, [], ◌++◌, length, take, is_ok, Some, None, Ok, Err, vec_items, string_bytes, codes, decimal, Option, Result, Vec, String, ◌==◌, slice_index_or}
+use Rattle.std.specs.Prelude.{◌≡◌, ℕ, ◌+◌, ◌<◌, ◌≤◌, true, false, List, [], ◌++◌, length, take}
+use Rattle.std.specs.Prelude.{is_ok, Some, None, Ok, Err, vec_items, string_bytes, codes, decimal}
+use Rattle.std.specs.Prelude.{Option, Result, Vec, String, ◌==◌, slice_index_or}
 use Rattle.std.specs.List.{slice_split, flat_map, AllByRecursion}
 use Rattle.std.specs.declared.alloc.Global.{Global}
 use Rattle.links.specs.Refusals.{told}
@@ -90,8 +92,8 @@ pub record Spelled (stream text : List ℕ) : Type 0 where
   pub text_is : text ≡ flat_map full_line commands
   pub each_means : AllByRecursion (λ c. Means (line_of c) c) commands
 
--- reading stops at this place, which the commands before it lead to; where the stream is too long it
--- stops at once
+-- reading stops at this place, which the commands before it lead to; where the stream is too long
+-- it stops at once
 pub record StopsAt (stream : List ℕ) (place : ℕ) (refused : Refused) : Type 0 where
   pub before : (text : List ℕ) × Spelled (take place stream) text
   pub reason : reading stream place ≡ Some (told refused)

@@ -13,7 +13,7 @@ use words::{number, without_return, word};
 pub mod stream;
 mod words;
 
-// A line that is neither a command nor a comment.
+/// A line that is neither a command nor a comment.
 #[derive(Clone, Copy, PartialEq, Eq, Debug)]
 pub struct BadLine;
 
@@ -55,7 +55,7 @@ fn parse_command(line: &[u8]) -> Option<Command>
     two_loads(kind, a, b)
 }
 
-// The command of a line without its line feed; none in an empty line and in a comment.
+/// The command of a line without its line feed; none in an empty line and in a comment.
 pub fn parse_line(line: &[u8]) -> Result<Option<Command>, BadLine>
     ensures { result ≡ meaning line.now }
 {
@@ -66,7 +66,7 @@ pub fn parse_line(line: &[u8]) -> Result<Option<Command>, BadLine>
     }
 }
 
-// The line of a command, without a line feed.
+/// The line of a command, without a line feed.
 pub fn format_line(heap: Global, command: Command) -> Result<String, AllocError>
     ensures value { IfOk result (λ text. string_bytes text ≡ line_of command) }
     ensures reads_back { Means (line_of command) command }

@@ -2,7 +2,8 @@
 ghost use Rattle.std.specs.Prelude.{◌≡◌, ◌++◌, string_bytes, OnOk, Some};
 ghost use Rattle.commands.specs.Commands.{bytes, line_of};
 ghost use Rattle.text.specs.Lines.{Means};
-ghost use Rattle.text.specs.Streams.{Appends, Encodes, full_line, Decodes, bad_text_told, bad_stream_told};
+ghost use Rattle.text.specs.Streams.{Appends, Encodes, full_line, Decodes, bad_text_told};
+ghost use Rattle.text.specs.Streams.{bad_stream_told};
 ghost use Rattle.text.specs.declared.stream.BadText.TheVariants as bad_text;
 ghost use Rattle.text.specs.declared.stream.BadStream.TheVariants as bad_stream;
 

@@ -30,7 +30,8 @@ module _ {B R : Type 0} (graph : B → Graph) (made : B → Type 0) (ledger : B 
     pub stands : Stands graph made ledger t
 
   -- a step y was made, and its line put at the end of the text
-  pub record Pushes (y : Step) (from : List ℕ) (next : ℕ) (t : Board B R) (text : List ℕ) : Type 0 where
+  pub record Pushes (y : Step) (from : List ℕ) (next : ℕ) (t : Board B R)
+      (text : List ℕ) : Type 0 where
     pub place_is : next ≡ y.place
     pub adds : Adds y.position y.line from t text
 
@@ -40,12 +41,19 @@ module _ {B R : Type 0} (graph : B → Graph) (made : B → Type 0) (ledger : B 
 
   module _ (before : R → Ranking) where
     -- how a step on the board s is answered r, and leaves the board t and the text
-    pub record PushesStep (s : Board B R) (stream : List ℕ) (place : ℕ) (from : List ℕ) (r : Result ℕ Failure) (t : Board B R) (text : List ℕ) : Type 0 where
+    pub record PushesStep (s : Board B R) (stream : List ℕ) (place : ℕ) (from : List ℕ)
+        (r : Result ℕ Failure) (t : Board B R) (text : List ℕ) : Type 0 where
       pub ranking_is : t.ranking ≡ s.ranking
       pub ends : Ends (transcribing stream) r
-          (λ next. Stands graph made ledger s → Pushes (step_at (before s.ranking) (position graph ledger s) stream place) from next t text)
+          (λ next. Stands graph made ledger s →
+          Pushes (step_at (before s.ranking) (position graph ledger s) stream place) from next
+          t text)
 
     -- the same of all steps of the stream
-    abbrev pub PlaysAll : Board B R → List ℕ → List ℕ → Result Unit Failure → Board B R → List ℕ → Type 0
+    abbrev pub PlaysAll : Board B R → List ℕ → List ℕ → Result Unit Failure → Board B R → List ℕ →
+        Type 0
     PlaysAll s stream from r t text =
-        Ends (transcribing stream) r (λ _. Stands graph made ledger s → Plays (played (length stream) (before s.ranking) (position graph ledger s) stream 0) from t text)
+        Ends (transcribing stream) r
+        (λ _. Stands graph made ledger s →
+        Plays (played (length stream) (before s.ranking) (position graph ledger s) stream 0)
+        from t text)

@@ -1,5 +1,6 @@
 -- Every byte that is answered to a stream: the line of each step, and then that of each pair.
-use Rattle.std.specs.Prelude.{◌≡◌, ℕ, zero, suc, ◌+◌, cond, List, [], ◌++◌, length, None, Option, ◌==◌}
+use Rattle.std.specs.Prelude.{◌≡◌, ℕ, zero, suc, ◌+◌, cond, List, [], ◌++◌, length, None, Option}
+use Rattle.std.specs.Prelude.{◌==◌}
 use Rattle.links.specs.Refusals.{Reason}
 use Rattle.commands.specs.Commands.{unless_short}
 use Rattle.rules.specs.Boards.{by_number, fresh}
@@ -24,11 +25,15 @@ and_then place y rest =
 unfoldable pub played : ℕ → Ranking → Position → List ℕ → ℕ → Played
 played zero before x stream place = record { position = x; text = [] }
 played (suc n) before x stream place =
-    and_then place (step_at before x stream place) (played n before (step_at before x stream place).position stream (step_at before x stream place).place)
+    and_then place (step_at before x stream place)
+    (played n before (step_at before x stream place).position stream
+    (step_at before x stream place).place)
 
 -- as many steps as the stream has bytes are enough: more lead nowhere else
 abbrev pub PlayedOut : Type 0
-PlayedOut = (before : Ranking) (x : Position) (stream : List ℕ) (more : ℕ) → played (length stream + more) before x stream 0 ≡ played (length stream) before x stream 0
+PlayedOut =
+    (before : Ranking) (x : Position) (stream : List ℕ) (more : ℕ) →
+    played (length stream + more) before x stream 0 ≡ played (length stream) before x stream 0
 
 -- a fresh board of 256 loads and at most 2,048 links
 unfoldable pub start : Position
@@ -52,10 +57,12 @@ transcribing input = unless_short input None
 abbrev pub moment : List ℕ → ℕ → Position
 moment input n = (played n by_number start input 0).position
 
--- at every moment of the play, the last one too, whose pairs are listed: partners are mutual and linked, no augmenting path
--- has one or three links, no free load has more links than the threshold, and three times the pairs is at least twice those
--- of every matching of the links that are left
+-- at every moment of the play, the last one too, whose pairs are listed: partners are mutual and
+-- linked, no augmenting path has one or three links, no free load has more links than the
+-- threshold, and three times the pairs is at least twice those of every matching of the links that
+-- are left
 pub record KeepsLaw (input : List ℕ) : Type 0 where
   pub sound : (n : ℕ) → Sound (moment input n)
   pub two_thirds : (n : ℕ) → TwoThirds (moment input n)
-  pub listed : transcript input ≡ (played (length input) by_number start input 0).text ++ lines_of (moment input (length input))
+  pub listed : transcript input ≡ (played (length input) by_number start input 0).text
+      ++ lines_of (moment input (length input))

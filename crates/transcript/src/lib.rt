@@ -23,7 +23,7 @@ use stream::{list_pairs, step};
 // 256 loads have at most 128 pairs.
 const LONGEST_LIST: usize = 128 * LONGEST_PAIR;
 
-// Why there is no transcript: the input is refused, or there is no memory for the text.
+/// Why there is no transcript: the input is refused, or there is no memory for the text.
 #[derive(Clone, Copy, PartialEq, Eq, Debug)]
 pub enum Failure {
     Input(Refused),
@@ -66,10 +66,8 @@ fn push_step<B: Book, R: Ranking>(
     place: usize,
     text: &mut Vec<u8>,
 ) -> Result<usize, Failure>
-    ensures {
-        PushesStep B.Links.graph B.Links.made B.Book.ledger R.Ranking.before
-        board.old stream.now place text.old.items result board.new text.new.items
-    }
+    ensures { PushesStep B.Links.graph B.Links.made B.Book.ledger R.Ranking.before
+        board.old stream.now place text.old.items result board.new text.new.items }
 {
     let mut line = [0; LONGEST_LINE];
     let stepped = step(board, stream, place, &mut line)?;
@@ -77,16 +75,15 @@ fn push_step<B: Book, R: Ranking>(
     Ok(stepped.place)
 }
 
-// Steps from the start of the stream until the place stays. A stream has no more commands than bytes.
+// Steps from the start of the stream until the place stays. A stream has no more commands than
+// bytes.
 fn play_all<B: Book, R: Ranking>(
     board: &mut Board<B, R>,
     stream: &[u8],
     text: &mut Vec<u8>,
 ) -> Result<(), Failure>
-    ensures {
-        PlaysAll B.Links.graph B.Links.made B.Book.ledger R.Ranking.before
-        board.old stream.now text.old.items result board.new text.new.items
-    }
+    ensures { PlaysAll B.Links.graph B.Links.made B.Book.ledger R.Ranking.before
+        board.old stream.now text.old.items result board.new text.new.items }
 {
     let mut place = 0;
     for _ in 0..stream.len() {
@@ -101,11 +98,10 @@ fn play_all<B: Book, R: Ranking>(
 
 // Puts the lines of the pairs at the end of the text.
 fn push_pairs<B: Book, R: Ranking>(board: &Board<B, R>, text: &mut Vec<u8>) -> Result<(), Failure>
-    ensures {
-        Stands B.Links.graph B.Links.made B.Book.ledger board.now →
+    ensures { Stands B.Links.graph B.Links.made B.Book.ledger board.now →
         Ends None result (λ _.
-            text.new.items ≡ text.old.items ++ lines_of (position B.Links.graph B.Book.ledger board.now))
-    }
+        text.new.items
+        ≡ text.old.items ++ lines_of (position B.Links.graph B.Book.ledger board.now)) }
 {
     let mut lines = [0; LONGEST_LIST];
     let written = list_pairs(board, &mut lines)?;
@@ -113,7 +109,8 @@ fn push_pairs<B: Book, R: Ranking>(board: &Board<B, R>, text: &mut Vec<u8>) -> R
     Ok(())
 }
 
-// Plays the input on a fresh board of 256 loads, with at most 2,048 links and the lower number first.
+/// Plays the input on a fresh board of 256 loads, with at most 2,048 links and the lower number
+/// first.
 #[tactic(auto, using(crate::proofs::Playing::played_out))]
 pub fn transcript(heap: Global, input: &[u8]) -> Result<Vec<u8>, Failure>
     ensures ends { Ends (transcribing input.now) result (λ v. v.items ≡ transcript input.now) }
@@ -128,7 +125,7 @@ pub fn transcript(heap: Global, input: &[u8]) -> Result<Vec<u8>, Failure>
     Ok(text)
 }
 
-// A stream played through, line by line.
+/// A stream played through, line by line.
 pub fn worked_stream()
     ensures { WorkedStream }
 {}

@@ -84,7 +84,8 @@ impl Trial {
         }
     }
 
-    // Adds random links to a book and to the reference's, some of which are refused, and removes some.
+    // Adds random links to a book and to the reference's, some of which are refused, and removes
+    // some.
     fn bring<B: Book>(
         &mut self,
         setting: &Setting,
@@ -118,7 +119,8 @@ impl Trial {
         Ok(filtered)
     }
 
-    // Brings links to a book without links, and plays a board on it, or on the filters that stand on it.
+    // Brings links to a book without links, and plays a board on it, or on the filters that stand
+    // on it.
     fn play_on<B: Book + Drop>(
         &mut self,
         setting: &Setting,
@@ -162,7 +164,8 @@ impl Trial {
         }
     }
 
-    // The same on every kind of book, by every kind of ranking, without filters and with one or two.
+    // The same on every kind of book, by every kind of ranking, without filters and with one or
+    // two.
     fn play_everywhere(&mut self, setting: &Setting) -> Result<()> {
         for book in BOOKS {
             for ranking in RANKINGS {

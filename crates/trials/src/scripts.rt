@@ -6,7 +6,8 @@ use std::array;
 
 const SIX_LOADS: [(u16, u16); 6] = [(0, 1), (2, 3), (0, 2), (1, 3), (1, 5), (3, 4)];
 
-// Links six loads in one of the 720 orders of these links, each of which has its own number, and then unlinks 0 and 1.
+// Links six loads in one of the 720 orders of these links, each of which has its own number, and
+// then unlinks 0 and 1.
 pub fn six_loads(alloc: Global, number: usize) -> Result<Vec<Call>, AllocError> {
     let mut links = SIX_LOADS;
     let mut rest = number;
@@ -52,9 +53,10 @@ fn put_lowest(loads: &mut [u16], place: usize) {
     }
 }
 
-// Links a hub, which stays free, to pair after pair until it displaces a load. Some loads have a link to x, from where a path
-// leads on over its partner y to a free end; if one of these is displaced, the path is augmented. Half the time the partner of
-// load 0 has about as many links as the threshold.
+// Links a hub, which stays free, to pair after pair until it displaces a load. Some loads have a
+// link to x, from where a path leads on over its partner y to a free end; if one of these is
+// displaced, the path is augmented. Half the time the partner of load 0 has about as many links as
+// the threshold.
 pub fn hub(alloc: Global, random: &mut Random, size: u16) -> Result<Vec<Call>, AllocError> {
     let mut loads = shuffled(alloc, random, size)?;
     let busy = random.chance(50);

@@ -63,7 +63,8 @@ pub struct Setting {
     pub places: Vec<Place>,
 }
 
-// One coordinate: mostly small, so that many detours are equal, and at times at an end of the range.
+// One coordinate: mostly small, so that many detours are equal, and at times at an end of the
+// range.
 fn draw_coordinate(random: &mut Random) -> i32 {
     match random.below(12) {
         0 => i32::MIN,

@@ -54,7 +54,8 @@ fn output<const N: usize>(bytes: &[u8]) -> [u8; N] {
 }
 
 impl Trial {
-    // Writes a command into an output that may be too short, and puts its bytes at the end of a stream.
+    // Writes a command into an output that may be too short, and puts its bytes at the end of a
+    // stream.
     fn write_one(&mut self, stream: &mut Vec<u8>, most: usize) -> Result<()> {
         let command = draw_command(&mut self.random, most);
         let room = self.random.between(2, 7);
@@ -88,7 +89,8 @@ impl Trial {
         Ok(())
     }
 
-    // Commands on loads below a number, one byte of which may be wrong, and the last of which may be cut short.
+    // Commands on loads below a number, one byte of which may be wrong, and the last of which may
+    // be cut short.
     fn draw_stream(&mut self, most: usize) -> Result<Vec<u8>> {
         let mut stream = Vec::new(self.alloc);
         for _ in 0..self.random.below(24) {

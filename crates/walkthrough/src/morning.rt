@@ -11,7 +11,8 @@ use telling::{answer, judge};
 
 const SIZE: usize = 8;
 
-// The six loads and the cancellation that once left two of them alone, some mistakes, a withdrawal and a departure.
+// The six loads and the cancellation that once left two of them alone, some mistakes, a withdrawal
+// and a departure.
 const MORNING: [Command; 17] = [
     Command::Link(0, 1),
     Command::Link(2, 3),

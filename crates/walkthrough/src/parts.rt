@@ -69,7 +69,8 @@ fn audits<L: Links>(rt: &impl Print, links: &L) -> io::Result<()> {
     judge(rt, links, &[2, 5, 0, 4, 3, 1])
 }
 
-// Rows of at most two links each, and a filter over them: loads 0 and 1 carry food (class 1), load 3 paint (class 2).
+// Rows of at most two links each, and a filter over them: loads 0 and 1 carry food (class 1), load
+// 3 paint (class 2).
 fn rows_and_filter(rt: &impl Print) -> io::Result<()> {
     println!(rt; "Rows of at most two links each, for four loads.")?;
     let mut numbers = [0; 12];

@@ -27,14 +27,16 @@ loop-a-preserved g c =
     let few = at_most_eight (below_partner a partner) (length (lower_line a partner)) c.write_lower.ensures.short in
     let un = c.unwrap_or-partner.ensures in
     let w = c.in_ok-written.ensures.writes in
-    record { within = omega arith; listed = λ stood.
-        let size = book_size g.B.Links.graph g.B.Links.made c.book.result.now c.args.board.now.book c.book.ensures c.size.result c.size.ensures.value stood.book_made in
-        let inside : a < (g.B.Links.graph c.args.board.now.book).size = omega (arith, size) in
-        let asked = told_partner c.args.board.now c.args.board.now stood a inside c.partner.result c.partner.ensures.answers in
-        let is : partner ≡ partners_of c.args.board.now.tables a = c.unwrap_or-partner.ensures ∙ ap (λ r. result_unwrap_or r None) asked in
-        listed_more (partners_of c.args.board.now.tables) c.loop-a.lines c.write_lower.new.out (lower_line a partner) (drop c.in_ok-written.field-0 (take (2048 - c.loop-a.written) (drop c.loop-a.written c.loop-a.lines)))
-        a c.loop-a.written c.in_ok-written.field-0 (2048 - c.loop-a.written) (c.loop-a.invariant.listed stood) (omega (arith, c.unwrap_or-partner.array_long))
-        (ap (lower_line a) is) w.answers.1.0 (subst (λ o. length (lower_line a partner) ≤ cond (below_partner a o) 8 0) is c.write_lower.ensures.short) w.answers.1.1;
+    record {
+      within = omega arith;
+      listed = λ stood.
+          let size = book_size g.B.Links.graph g.B.Links.made c.book.result.now c.args.board.now.book c.book.ensures c.size.result c.size.ensures.value stood.book_made in
+          let inside : a < (g.B.Links.graph c.args.board.now.book).size = omega (arith, size) in
+          let asked = told_partner c.args.board.now c.args.board.now stood a inside c.partner.result c.partner.ensures.answers in
+          let is : partner ≡ partners_of c.args.board.now.tables a = c.unwrap_or-partner.ensures ∙ ap (λ r. result_unwrap_or r None) asked in
+          listed_more (partners_of c.args.board.now.tables) c.loop-a.lines c.write_lower.new.out (lower_line a partner) (drop c.in_ok-written.field-0 (take (2048 - c.loop-a.written) (drop c.loop-a.written c.loop-a.lines)))
+          a c.loop-a.written c.in_ok-written.field-0 (2048 - c.loop-a.written) (c.loop-a.invariant.listed stood) (omega (arith, c.unwrap_or-partner.array_long))
+          (ap (lower_line a) is) w.answers.1.0 (subst (λ o. length (lower_line a partner) ≤ cond (below_partner a o) 8 0) is c.write_lower.ensures.short) w.answers.1.1;
     }
 
 pub returns : goal.returns
