@@ -11,7 +11,6 @@ use Rattle.rules.specs.Repair.{Ranking}
 use Rattle.rules.proofs.Calls.{call_follows, call_kept}
 use Rattle.rules.proofs.Runs.{sound_two_thirds}
 use Rattle.rules.proofs.Threshold.{threshold_least}
-use Rattle.tables.specs.Views.{partners_of}
 use Rattle.board.specs.declared.Board.{Board}
 use Rattle.board.specs.Boards.{position, Stands, Steps}
 use Rattle.board.specs.Runs.{Run, none, more, ByRules, Moment, Law}

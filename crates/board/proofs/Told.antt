@@ -1,5 +1,5 @@
 -- What a board that stands answers to a call that is not refused.
-use Rattle.std.proofs.Common.{◌≡◌, ℕ, ◌<◌, leb, None, Some, Ok, Err, Option, Result, ap, sym, ◌∙◌}
+use Rattle.std.proofs.Common.{◌≡◌, ℕ, ◌<◌, leb, None, Ok, Err, Option, Result, ap, sym, ◌∙◌}
 use Rattle.std.proofs.lemmas.Bool.{cond-false, lt-leb}
 use Rattle.std.proofs.lemmas.Option.{none-some}
 use Rattle.graph.specs.Graph.{Graph}

@@ -17,7 +17,7 @@ use Rattle.board.specs.declared.Board.{Board}
 use Rattle.board.specs.Boards.{Stands, FollowsBook, FollowsRules}
 use Rattle.board.specs.Leaving.{RemovesLinks}
 use Rattle.board.proofs.Steps.{granted_book, granted_rules, repaired_rules}
-use Rattle.board.proofs.Leaving.{InStep, fewer_links, book_left, in_step, partners_two, links_removed, partners_parted}
+use Rattle.board.proofs.Leaving.{InStep, fewer_links, in_step, partners_two, links_removed, partners_parted}
 
 module _ {B R : Type 0} (graph : B → Graph) (made : B → Type 0) (ledger : B → Ledger) (before : R → Ranking) (s : Board B R)
     (a : ℕ) (none : unless_load (graph s.book) a None ≡ None) (t : Board B R) where

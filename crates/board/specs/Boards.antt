@@ -1,5 +1,5 @@
 -- What a board stands for, and how it answers its calls.
-use Rattle.std.specs.Prelude.{◌≡◌, ℕ, true, IfOk, Result}
+use Rattle.std.specs.Prelude.{◌≡◌, true, IfOk, Result}
 use Rattle.graph.specs.Graph.{Graph}
 use Rattle.links.specs.Books.{Ledger, Stands as BookStands}
 use Rattle.links.specs.Refusals.{Answers, Kept}

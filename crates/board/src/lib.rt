@@ -40,8 +40,10 @@ fn threshold_of(limit: usize) -> usize
 fn repair_of<'a, B: Book, R: Ranking>(book: &'a B, ranking: &'a R) -> Repair<'a, B, R>
     ensures links { result.links.now ≡ book.now }
     ensures ranking { result.ranking.now ≡ ranking.now }
-    ensures threshold { B.Links.made book.now → result.threshold ≡ threshold (B.Book.ledger book.now).limit }
-    ensures bounded { B.Links.made book.now → Bounded (B.Links.graph book.now) (B.Book.ledger book.now) }
+    ensures threshold { B.Links.made book.now →
+        result.threshold ≡ threshold (B.Book.ledger book.now).limit }
+    ensures bounded { B.Links.made book.now →
+        Bounded (B.Links.graph book.now) (B.Book.ledger book.now) }
 {
     Repair::new(book, ranking, threshold_of(book.limit()))
 }

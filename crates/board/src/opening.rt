@@ -39,7 +39,8 @@ impl<B: Book, R: Ranking> Board<B, R> {
     /// Opens a board on a book: all loads are free at first, and all are repaired. It looks at
     /// every load and its links, and is the only call that does.
     pub fn open(book: B, ranking: R) -> Board<B, R>
-        ensures opens { Opens B.Links.graph B.Links.made B.Book.ledger R.Ranking.before book ranking result }
+        ensures opens { Opens B.Links.graph B.Links.made B.Book.ledger R.Ranking.before
+            book ranking result }
         ensures law { B.Links.made book →
             Law B.Links.graph B.Links.made B.Book.ledger B.Book.fixed R.Ranking.before result }
     {

@@ -10,8 +10,8 @@ use ranking::Ranking;
 impl<B: Book, R: Ranking> Board<B, R> {
     /// The partner of a load, if it has one. Refused with 4 (board) where `a` is not a load.
     pub fn partner(&self, a: usize) -> Result<Option<usize>, Refused>
-        ensures answers { Steps B.Links.graph B.Links.made B.Book.ledger B.Book.fixed R.Ranking.before
-            self.now (ask_partner a) result self.now }
+        ensures answers { Steps B.Links.graph B.Links.made B.Book.ledger B.Book.fixed
+            R.Ranking.before self.now (ask_partner a) result self.now }
         ensures bound { IfOk result (λ o. IfSome o (λ b. b < 256)) }
     {
         self.check_load(a)?;

@@ -1,8 +1,8 @@
 -- What a question answers, and that it changes nothing.
-use Rattle.std.proofs.Common.{◌≡◌, ℕ, ◌<◌, ◌&&◌, Bool, true, false, leb, Some, None, Option, sym, refl, inl, inr, arith}
+use Rattle.std.proofs.Common.{◌≡◌, ℕ, ◌<◌, ◌&&◌, Bool, true, leb, Some, None, Option, sym, refl, inl, inr, arith}
 use Rattle.std.proofs.lemmas.Bool.{cases_lt, and_parts, and_from, and_left, and_right, both_ways, lt-leb, le-leb, lt-ltb, leb-true}
 use Rattle.std.proofs.lemmas.Bool.Decides.{nat_tests}
-use Rattle.graph.specs.Graph.{First, Next}
+use Rattle.graph.specs.Graph.{Next}
 use Rattle.links.specs.Refusals.{Reason}
 use Rattle.ranking.specs.Order.{StrictOrder, lower}
 use Rattle.rules.specs.Calls.{Position, Call, link, unlink, withdraw, depart, ask_partner, ask_free_links, ask_next_free, ask_pairs, is_question, reason, unless, after}

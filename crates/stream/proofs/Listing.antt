@@ -1,25 +1,20 @@
 -- The lines of pairs, written one after the other.
-use Rattle.std.proofs.Common.{◌≡◌, ℕ, suc, ◌+◌, ◌-◌, ◌*◌, ◌/◌, ◌<◌, ◌≤◌, Bool, true, false, cond, ltb, leb, List, ◌++◌, length, take, drop, Some, None, Ok, Err, Option, Result, sym, refl, ap, ◌∙◌, subst, append_assoc, add-one, arith, length-append}
+use Rattle.std.proofs.Common.{◌≡◌, ℕ, ◌+◌, ◌*◌, ◌≤◌, Bool, true, false, cond, ltb, List, ◌++◌, length, take, drop, Some, None, Ok, Err, Option, Result, sym, refl, ap, ◌∙◌, subst, append_assoc, add-one, arith, length-append}
 use borrow.Rule.Slice.PartMut.{put_mid}
-use Rattle.std.proofs.lemmas.Bool.{cond-true, cond-false, lt-leb, le-ltb}
+use Rattle.std.proofs.lemmas.Bool.{cond-false, le-ltb}
 use Rattle.std.proofs.lemmas.Bool.Decides.{nat_tests}
 use Rattle.std.proofs.lemmas.List.{take_at, drop_at, length-take-le}
 use Rattle.std.proofs.lemmas.Option.{none-some}
 use Rattle.graph.specs.Graph.{Graph, Simple, count}
 use Rattle.graph.specs.Matching.{Partners, Matching}
-use Rattle.graph.specs.Pairs.{below_partner, is_lower, pairs}
+use Rattle.graph.specs.Pairs.{is_lower, pairs}
 use Rattle.graph.proofs.Pairs.{at_lower}
-use Rattle.links.specs.Books.{Ledger}
-use Rattle.links.specs.Outputs.{unless_fits, Writes}
+use Rattle.links.specs.Outputs.{Writes}
 use Rattle.links.specs.Refusals.{Reason, told}
 use Rattle.links.specs.declared.refusal.Refused.{Refused}
-use Rattle.rules.specs.Calls.{Position, ask_partner, pairs_of}
-use Rattle.rules.specs.Repair.{Ranking}
-use Rattle.tables.specs.Views.{partners_of}
-use Rattle.board.specs.Boards.{position, Stands, Steps}
-use Rattle.board.specs.declared.Board.{Board}
+use Rattle.rules.specs.Calls.{Position, pairs_of}
 use Rattle.stream.proofs.Stepping.{fits}
-use Rattle.stream.specs.Pairs.{lower_line, pair_lines, lines_of, too_short, listing, Lists}
+use Rattle.stream.specs.Pairs.{lower_line, pair_lines, lines_of, too_short, Lists}
 
 -- the first n bytes are the lines of the pairs whose lower load is below a
 pub record Listed (a : ℕ) (p : Partners) (lines : List ℕ) (n : ℕ) : Type 0 where

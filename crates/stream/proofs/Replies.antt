@@ -1,5 +1,5 @@
 -- A command carried out by the board's own call.
-use Rattle.std.proofs.Common.{◌≡◌, ℕ, IsErrAnd, Ok, Err, Result, sym, ap, subst}
+use Rattle.std.proofs.Common.{◌≡◌, IsErrAnd, Ok, Err, Result, sym, ap, subst}
 use Rattle.graph.specs.Graph.{Graph}
 use Rattle.links.specs.Books.{Ledger}
 use Rattle.links.specs.declared.refusal.Refused.{Refused}

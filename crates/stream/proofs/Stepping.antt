@@ -1,27 +1,27 @@
 -- A step, by what is read at its place, and what is written of it.
 use Rattle.std.proofs.Common.{◌≡◌, ℕ, ◌+◌, ◌<◌, ◌≤◌, ltb, leb, List, [], ◌++◌, length, drop, Some, None, Ok, Err, codes, Option, Result, sym, refl, ap, ◌∙◌, subst, inl, inr, arith}
 use Rattle.std.proofs.lemmas.Option.{none-some}
-use Rattle.std.proofs.lemmas.Bool.{cond-true, cond-false, cases_lt, le-leb, lt-leb, leb-true, leb-false, le-ltb}
+use Rattle.std.proofs.lemmas.Bool.{cond-true, cond-false, cases_lt, le-leb, lt-leb, le-ltb}
 use Rattle.std.proofs.lemmas.Bool.Decides.{nat_tests}
 use Rattle.graph.specs.Graph.{Graph}
 use Rattle.links.specs.Books.{Ledger}
 use Rattle.links.specs.Outputs.{unless_fits, Writes}
 use Rattle.links.specs.Refusals.{Reason, Answers, told}
 use Rattle.links.specs.declared.refusal.Refused.{Refused}
-use Rattle.rules.specs.Calls.{Position, Answer, reason, answer, after}
+use Rattle.rules.specs.Calls.{Position, Answer, reason, answer}
 use Rattle.rules.specs.Repair.{Ranking}
-use Rattle.board.specs.Boards.{position, Stands, Steps as BoardSteps}
+use Rattle.board.specs.Boards.{position, Stands}
 use Rattle.board.specs.declared.Board.{Board}
 use Rattle.board.proofs.Runs.{by_rules}
-use Rattle.commands.specs.Commands.{bytes, decoding, decoded, followed, read_at, Reads, Spans}
+use Rattle.commands.specs.Commands.{bytes, decoding, decoded, followed, Reads, Spans}
 use Rattle.commands.specs.declared.Command.{Command}
 use Rattle.commands.specs.declared.Decoded.{Decoded}
 use Rattle.commands.proofs.Reading.{reading_inside}
-use Rattle.replies.specs.Lines.{words, line, refusal_words}
+use Rattle.replies.specs.Lines.{words, line}
 use Rattle.replies.specs.declared.Reply.{Reply}
 use Rattle.replies.specs.declared.Reply.TheVariants.{No}
 use Rattle.stream.specs.Replies.{call_of, reply_to, reply_at, on_granted, CarriesOut}
-use Rattle.stream.specs.Steps.{Found, at_end, no_command, command, found_by, found_at, answer_words, words_by, Step, step_of, step_at, stepping, WritesLine, Plays, Takes, Makes, Steps}
+use Rattle.stream.specs.Steps.{Found, at_end, no_command, command, found_by, found_at, answer_words, words_by, step_of, step_at, stepping, WritesLine, Takes, Makes, Steps}
 use Rattle.stream.specs.declared.Stepped.{Stepped}
 
 pub stepping_none : (stream out : List ℕ) → stepping stream out ≡ None → (length stream ≤ 65536) × (19 ≤ length out)

@@ -1,9 +1,9 @@
 -- The law of runs, at every moment of the play of an input.
-use Rattle.std.proofs.Common.{◌≡◌, ℕ, zero, suc, ◌≤◌, Bool, true, false, List, length, ◌==◌, sym, refl, subst, lit≤}
+use Rattle.std.proofs.Common.{ℕ, zero, suc, List, ◌==◌, sym, refl, subst, lit≤}
 use Rattle.std.proofs.lemmas.Bool.{cond_both}
 use Rattle.graph.specs.Graph.{edgeless}
 use Rattle.rules.specs.Boards.{by_number, fresh, fresh_ledger}
-use Rattle.rules.specs.Calls.{Position, after}
+use Rattle.rules.specs.Calls.{Position}
 use Rattle.rules.specs.Laws.{Run, none, more, Moment}
 use Rattle.rules.specs.Repair.{Ranking}
 use Rattle.rules.proofs.Boards.{fresh_proper}

@@ -1,6 +1,6 @@
 use Rattle.std.proofs.Common.{◌≡◌, Some, Ok, rules}
 use Rattle.commands.specs.Commands.{Reads, Spans}
-use Rattle.stream.proofs.Stepping.{replied_at, stepping_none, Turns, turns_command, turns_refused, steps_written, steps_ended}
+use Rattle.stream.proofs.Stepping.{replied_at, stepping_none, Turns, turns_command, turns_refused, steps_written}
 use Rattle.stream.proofs.step.Goals as goal
 use Rattle.stream.proofs.step.Goals.{in-Ok-Some, in-Err}
 
