@@ -1,4 +1,3 @@
-pub mod Thresholds
 pub mod Recording
 pub mod Numbers
 pub mod Opened

@@ -1,12 +1,11 @@
 // A board: a book of links, a ranking, and the matching that is kept on them.
 #![tactic(auto)]
 
-ghost use Rattle.std.specs.Prelude.{◌≡◌, ◌≤◌, None};
+ghost use Rattle.std.specs.Prelude.{◌≡◌, None};
 ghost use Rattle.graph.specs.Graph.{Simple};
 ghost use Rattle.links.specs.Books.{Bounded};
 ghost use Rattle.links.specs.Refusals.{Answers};
 ghost use Rattle.rules.specs.Calls.{unless_load};
-ghost use Rattle.rules.specs.Threshold.{threshold};
 
 use links::{Book, Layer, Links, Refusal, Refused};
 use ranking::Ranking;
@@ -25,27 +24,15 @@ pub struct Board<B, R> {
     tables: Tables,
 }
 
-// The least whole number whose square is at least twice the limit. Twice a limit fits 16 bits.
-fn threshold_of(limit: usize) -> usize
-    ensures { limit ≤ 32640 → result ≡ threshold limit }
-{
-    match u16::try_from(limit.saturating_mul(2)) {
-        Ok(0) => 0,
-        Ok(twice) => usize::from((twice - 1).isqrt()) + 1,
-        Err(_) => 256,
-    }
-}
-
-// What a board's repairs go by: its links, its ranking, and the threshold by the limit of its book.
+// What a board's repairs go by: its links, its ranking, and the limit of its book.
 fn repair_of<'a, B: Book, R: Ranking>(book: &'a B, ranking: &'a R) -> Repair<'a, B, R>
     ensures links { result.links.now ≡ book.now }
     ensures ranking { result.ranking.now ≡ ranking.now }
-    ensures threshold { B.Links.made book.now →
-        result.threshold ≡ threshold (B.Book.ledger book.now).limit }
+    ensures limit { B.Links.made book.now → result.limit ≡ (B.Book.ledger book.now).limit }
     ensures bounded { B.Links.made book.now →
         Bounded (B.Links.graph book.now) (B.Book.ledger book.now) }
 {
-    Repair::new(book, ranking, threshold_of(book.limit()))
+    Repair::new(book, ranking, book.limit())
 }
 
 impl<B: Book, R: Ranking> Board<B, R> {

@@ -5,3 +5,4 @@ pub mod Taking
 pub mod Displacing
 pub mod Rounds
 pub mod Book
+mod Heavy

@@ -1,8 +1,9 @@
 // The second phase of a repair at one load: an augmenting path is taken, or a light load is
 // displaced.
-ghost use Rattle.std.specs.Prelude.{◌≡◌};
+ghost use Rattle.std.specs.Prelude.{◌≡◌, nat_lt};
 ghost use Rattle.graph.specs.Matching.{Free};
 ghost use Rattle.rules.specs.Repair.{light_start_of, displace, improve};
+ghost use Rattle.rules.specs.Threshold.{threshold};
 ghost use Rattle.tables.specs.Views.{partners_of, Agrees};
 ghost use Rattle.repair.specs.Book.{OnBook};
 ghost use Rattle.repair.specs.Holds.{Changes, Augments, LightPartner};
@@ -14,13 +15,22 @@ use links::walk::linked_loads;
 use ranking::Ranking;
 use tables::Tables;
 
-// Whether x has a partner, and that partner at most `threshold` links.
-fn has_light_partner(tables: &Tables, threshold: usize, x: usize) -> bool
-    ensures { LightPartner threshold x tables.now result }
+// Whether so many links are more than the threshold of a limit. The threshold is the least number
+// whose square is at least twice the limit, so no root has to be taken. 128 bits hold each square.
+fn is_heavy(degree: usize, limit: usize) -> bool
+    ensures { result ≡ nat_lt (threshold limit) degree }
+{
+    let below = degree.saturating_sub(1) as u128;
+    degree > 0 && below * below >= 2 * limit as u128
+}
+
+// Whether x has a partner, and that partner no more links than the threshold.
+fn has_light_partner(tables: &Tables, limit: usize, x: usize) -> bool
+    ensures { LightPartner (threshold limit) x tables.now result }
 {
     tables
         .partner(x)
-        .is_some_and(|y| tables.links(y) <= threshold)
+        .is_some_and(|y| !is_heavy(tables.links(y), limit))
 }
 
 impl<L: Links, R: Ranking> Repair<'_, L, R> {
@@ -37,25 +47,25 @@ impl<L: Links, R: Ranking> Repair<'_, L, R> {
         true
     }
 
-    // The first in a's ranking of the loads linked to a whose partner has at most `threshold`
-    // links.
+    // The first in a's ranking of the loads linked to a whose partner has no more links than the
+    // threshold.
     fn light_start(&self, tables: &Tables, a: usize) -> Option<usize>
         ensures { OnBook L.Links.made L.Links.graph R.Ranking.before self.now
             (λ before t g. Agrees g tables.now
             → result ≡ light_start_of before t g (partners_of tables.now) a) }
     {
         let walk = linked_loads(self.links, a, 256);
-        let is_light = |x| has_light_partner(tables, self.threshold, x);
+        let is_light = |x| has_light_partner(tables, self.limit, x);
         best_of(self.ranking, a, walk, is_light)
     }
 
-    // a, which is free, displaces a light load if a has more than `threshold` links.
+    // a, which is free, displaces a light load if a has more links than the threshold.
     fn displace(&self, tables: &mut Tables, a: usize)
         ensures { OnBook L.Links.made L.Links.graph R.Ranking.before self.now
             (λ before t g. Free (partners_of tables.old) a
             → Changes g (displace before t g a) tables.old tables.new) }
     {
-        if tables.links(a) > self.threshold
+        if is_heavy(tables.links(a), self.limit)
             && let Some(x) = self.light_start(tables, a)
             && let Some(y) = tables.partner(x)
         {

@@ -16,8 +16,9 @@ mod best;
 mod changes;
 mod paths;
 
-/// What a repair goes by: the links, the ranking by which loads choose, and the threshold, which is
-/// the most links that a free load may keep.
+/// What a repair goes by: the links, the ranking by which loads choose, and the link limit, by which
+/// the threshold is the most links that a free load may keep: the least whole number whose square is
+/// at least twice the limit.
 ///
 /// The tables are lent to each call. They are to agree with the graph of the links and to hold a
 /// matching of it; then they do so afterwards, with the partners that the rules of repair give.
@@ -26,20 +27,20 @@ mod paths;
 pub struct Repair<'a, L, R> {
     links: &'a L,
     ranking: &'a R,
-    threshold: usize,
+    limit: usize,
 }
 
 impl<'a, L, R> Repair<'a, L, R> {
-    /// A repair by these links, this ranking and this threshold, which may be any number.
-    pub fn new(links: &'a L, ranking: &'a R, threshold: usize) -> Repair<'a, L, R>
+    /// A repair by these links, this ranking and this limit, which may be any number.
+    pub fn new(links: &'a L, ranking: &'a R, limit: usize) -> Repair<'a, L, R>
         ensures links { result.links.now ≡ links.now }
         ensures ranking { result.ranking.now ≡ ranking.now }
-        ensures threshold { result.threshold ≡ threshold }
+        ensures limit { result.limit ≡ limit }
     {
         Repair {
             links,
             ranking,
-            threshold,
+            limit,
         }
     }
 }

@@ -1,5 +1,6 @@
 use Rattle.std.proofs.Common.{get_or}
 use Rattle.rules.specs.Repair.{each, match_free, improve}
+use Rattle.rules.specs.Threshold.{threshold}
 use Rattle.repair.proofs.Rounds.{changes_then, matches, each_more, each_all}
 use Rattle.repair.proofs.Repair.repair.Goals as goal
 
@@ -13,7 +14,7 @@ loop-load-preserved g c = λ made simple.
 
 pub loop-load-2-preserved : goal.loop-load-2-preserved
 loop-load-2-preserved g c = λ made simple.
-    let better = improve (g.R.Ranking.before c.args.self.now.ranking.now) c.args.self.now.threshold (g.L.Links.graph c.args.self.now.links.now) in
+    let better = improve (g.R.Ranking.before c.args.self.now.ranking.now) (threshold c.args.self.now.limit) (g.L.Links.graph c.args.self.now.links.now) in
     each_more better (g.L.Links.graph c.args.self.now.links.now) c.args.loads.now c.loop-load-2.load-index c.loop-load-2-test.true (c.loop-load-2.invariant made simple) (c.improve.ensures made simple)
 
 pub returns : goal.returns
@@ -21,7 +22,7 @@ returns g c = λ made simple.
     let before = g.R.Ranking.before c.args.self.now.ranking.now in
     let graph = g.L.Links.graph c.args.self.now.links.now in
     let loads = c.args.loads.now in
-    let better = improve before c.args.self.now.threshold graph in
+    let better = improve before (threshold c.args.self.now.limit) graph in
     changes_then graph (each (match_free before graph) loads) (each better loads)
     (each_all (match_free before graph) graph loads c.loop-load.load-index c.loop-load-test.false (c.loop-load.invariant made simple))
     (each_all better graph loads c.loop-load-2.load-index c.loop-load-2-test.false (c.loop-load-2.invariant made simple))
