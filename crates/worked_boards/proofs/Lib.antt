@@ -3,3 +3,5 @@ mod Played
 mod Positions
 mod Brought
 mod HiddenLinks
+mod StreamSteps
+mod ByLaw

@@ -1,1 +1,3 @@
 pub mod Played
+pub mod Stepping
+pub mod Lawful

@@ -16,6 +16,9 @@ use ranking::detour::{ByDetour, Place};
 use ranking::{ByNumber, Ranking};
 use rows::SortedRows;
 
+pub mod law;
+pub mod stepping;
+
 // Links each pair of loads in turn, up to the first that is refused.
 fn link_all<B: Book, R: Ranking>(
     board: &mut Board<B, R>,
