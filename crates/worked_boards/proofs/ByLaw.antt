@@ -1,13 +1,12 @@
 -- What the law of runs says of partners that were read.
-use Rattle.std.proofs.Common.{◌≡◌, ℕ, zero, suc, ◌+◌, ◌*◌, ◌/◌, ◌<◌, ◌≤◌, not, List, None, Ok, Option, Result, get_or, sym, refl, ap, ◌∙◌, subst, ap₂, arith}
-use Rattle.graph.specs.Graph.{Graph, count}
+use Rattle.std.proofs.Common.{◌≡◌, ℕ, zero, suc, ◌+◌, ◌/◌, ◌<◌, ◌≤◌, not, List, None, Ok, Option, get_or, ap, ◌∙◌, subst, ap₂, arith}
+use Rattle.graph.specs.Graph.{Graph}
 use Rattle.graph.specs.Matching.{Partners}
 use Rattle.graph.specs.Pairs.{has_partner, pairs}
 use Rattle.graph.proofs.Counts.{count_ext}
 use Rattle.links.specs.Books.{Ledger}
-use Rattle.links.specs.declared.refusal.Refused.{Refused}
 use Rattle.rules.specs.Boards.{listed}
-use Rattle.rules.specs.Calls.{Position, Call, Answer, reason}
+use Rattle.rules.specs.Calls.{Position, Call, Answer}
 use Rattle.rules.specs.Health.{TwoThirds, same_partner, changes}
 use Rattle.rules.specs.Laws.{most, allowed}
 use Rattle.rules.specs.Repair.{Ranking}
@@ -17,7 +16,7 @@ use Rattle.board.specs.Runs.{Run, Law}
 use Rattle.worked_boards.specs.Lawful.{read_from, TwoThirdsRead, differing}
 use Rattle.worked_boards.proofs.Positions.{At}
 
-get_listed : {A : Type 0} (f : ℕ → A) (i n k : ℕ) (z : A) → k < n → get_or (listed f i n) k z ≡ f (i + k)
+pub get_listed : {A : Type 0} (f : ℕ → A) (i n k : ℕ) (z : A) → k < n → get_or (listed f i n) k z ≡ f (i + k)
 get_listed f i zero k z l = absurd (omega arith)
 get_listed f i (suc n) zero z l = let e : i ≡ i + 0 = omega arith in ap f e
 get_listed f i (suc n) (suc k) z l =

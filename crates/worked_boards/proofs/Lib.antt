@@ -5,3 +5,5 @@ mod Brought
 mod HiddenLinks
 mod StreamSteps
 mod ByLaw
+mod PlayedOut
+mod Lent

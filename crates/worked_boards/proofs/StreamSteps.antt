@@ -4,7 +4,7 @@ use Rattle.std.proofs.lemmas.Bool.{false≢true}
 use Rattle.std.proofs.lemmas.Bool.Decides.{nat_tests}
 use Rattle.graph.specs.Graph.{Graph}
 use Rattle.links.specs.Books.{Ledger}
-use Rattle.links.specs.Refusals.{Reason, Answers, Kept, told}
+use Rattle.links.specs.Refusals.{Reason, Answers, Kept}
 use Rattle.links.specs.declared.refusal.Refused.{Refused}
 use Rattle.rules.specs.Calls.{Answer}
 use Rattle.rules.specs.Repair.{Ranking}
@@ -115,17 +115,20 @@ module _ {B R F : Type 0} (graph : B → Graph) (made : B → Type 0) (ledger : 
     two_of_two last n second two sum = record {
       run = λ origin run. two.run origin (one.run origin run);
       kept = tt;
-      answers = (one.answers.0, record {
-        between = u;
-        next = next;
-        last = last;
-        first = first;
-        second = second;
-        moved_first = one.answers.1;
-        moved_second = two.answers.1;
-        count = sum;
-        unmoved = λ none. two.answers.1.unmoved (no_second first second (sym sum ∙ none)) ∙ one.answers.1.unmoved (no_first first second (sym sum ∙ none));
-      });
+      answers = (
+        one.answers.0,
+        record {
+          between = u;
+          next = next;
+          last = last;
+          first = first;
+          second = second;
+          moved_first = one.answers.1;
+          moved_second = two.answers.1;
+          count = sum;
+          unmoved = λ none. two.answers.1.unmoved (no_second first second (sym sum ∙ none)) ∙ one.answers.1.unmoved (no_first first second (sym sum ∙ none));
+        },
+      );
       no_command_first = λ why found.
           let at : Moved graph made ledger fixed before (no_command why) s place next first u = subst (λ (f : Found). Moved graph made ledger fixed before f s place next first u) found one.answers.1 in
           let again : found_at stream next ≡ no_command why = ap (found_at stream) at.next_is ∙ found in

@@ -28,8 +28,8 @@ TwoThirdsRead g array =
 abbrev pub differing : ℕ → List (Option ℕ) → List (Option ℕ) → ℕ
 differing n xs ys = count n (λ a. not (same_partner (read_from xs a) (read_from ys a)))
 
--- all is granted. At each moment there are two thirds of the pairs of every matching, and at most 12
--- and 7 loads have another partner than at the one before
+-- all is granted. At each moment there are two thirds of the pairs of every matching, and at most
+-- 12 and 7 loads have another partner than at the one before
 pub record Lawful (p : Readings) : Type 0 where
   pub linked : TwoThirdsRead links_made p.linked
   pub unlinked : TwoThirdsRead links_left p.unlinked

@@ -37,7 +37,7 @@ module _
   next_place (command c) place = place + length (bytes c)
 
   -- where nothing is granted, the board is as it was
-  pub record Moved (f : Found) (s : Board B R) (place : ℕ) (next : ℕ) (granted : Bool) (t : Board B R)
+  pub record Moved (f : Found) (s : Board B R) (place next : ℕ) (granted : Bool) (t : Board B R)
       : Type 0 where
     pub next_is : next ≡ next_place f place
     pub grants : Grants f s granted
@@ -51,9 +51,10 @@ module _
     pub answers : Answers (unless_short stream None) r
         (λ p. Moved (found_at stream place) s place p.0 p.1 t)
 
-  -- two steps, of which n were granted, led over a board `between` from s to t. The second is at the
-  -- place after the first. Where neither is granted, t is s
-  pub record MovedTwice (s : Board B R) (stream : List ℕ) (place n : ℕ) (t : Board B R) : Type 0 where
+  -- two steps, of which n were granted, led over a board `between` from s to t. The second is at
+  -- the place after the first. Where neither is granted, t is s
+  pub record MovedTwice (s : Board B R) (stream : List ℕ) (place n : ℕ) (t : Board B R)
+      : Type 0 where
     pub between : Board B R
     pub next : ℕ
     pub last : ℕ

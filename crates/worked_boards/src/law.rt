@@ -6,8 +6,9 @@ ghost use Rattle.worked_boards.specs.Lawful.{LawSeen};
 
 use crate::{link_all, partners};
 use board::Board;
+use books::bit_matrix::BitMatrix;
 use links::{Book, Refused};
-use ranking::Ranking;
+use ranking::{ByNumber, Ranking};
 
 /// The partners of twenty-four loads at three moments.
 #[derive(Drop)]
@@ -23,10 +24,8 @@ pub fn read_by_law<B: Book + Drop, R: Ranking + Drop>(
     book: B,
     ranking: R,
 ) -> Result<Readings, Refused>
-    ensures {
-        Stands B.Links.graph B.Links.made B.Book.ledger book (edgeless 24) (fresh_ledger 24 30) →
-        LawSeen result
-    }
+    ensures { Stands B.Links.graph B.Links.made B.Book.ledger book (edgeless 24)
+        (fresh_ledger 24 30) → LawSeen result }
 {
     let mut board = Board::open(book, ranking);
     link_all(
@@ -43,4 +42,12 @@ pub fn read_by_law<B: Book + Drop, R: Ranking + Drop>(
         unlinked,
         withdrawn,
     })
+}
+
+/// The same on a bit matrix, where the load with the lower number comes first.
+pub fn read_by_law_on_bit_matrix() -> Result<Readings, Refused>
+    ensures { LawSeen result }
+{
+    let mut words = [0; 24];
+    read_by_law(BitMatrix::new(24, 30, &mut words), ByNumber)
 }

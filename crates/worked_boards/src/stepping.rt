@@ -13,10 +13,8 @@ fn carry_out<B: Book, R: Ranking>(
     stream: &[u8],
     place: usize,
 ) -> Result<(usize, bool), Refused>
-    ensures {
-        CarriesOut B.Links.graph B.Links.made B.Book.ledger B.Book.fixed R.Ranking.before
-        board.old stream.now place result board.new
-    }
+    ensures { CarriesOut B.Links.graph B.Links.made B.Book.ledger B.Book.fixed R.Ranking.before
+        board.old stream.now place result board.new }
 {
     let mut out = [0; 19];
     let stepped = step(board, stream, place, &mut out)?;
@@ -30,10 +28,8 @@ pub fn carry_out_two<B: Book, R: Ranking>(
     stream: &[u8],
     place: usize,
 ) -> Result<usize, Refused>
-    ensures {
-        CarriesOutTwo B.Links.graph B.Links.made B.Book.ledger B.Book.fixed R.Ranking.before
-        board.old stream.now place result board.new
-    }
+    ensures { CarriesOutTwo B.Links.graph B.Links.made B.Book.ledger B.Book.fixed R.Ranking.before
+        board.old stream.now place result board.new }
 {
     let (next, first) = carry_out(board, stream, place)?;
     let (_, second) = carry_out(board, stream, next)?;

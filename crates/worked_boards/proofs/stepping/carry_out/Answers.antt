@@ -1,4 +1,4 @@
-use Rattle.std.proofs.Common.{ℕ, List, length, refl}
+use Rattle.std.proofs.Common.{refl}
 use Rattle.worked_boards.proofs.StreamSteps.{first_byte, no_byte, carried}
 use Rattle.worked_boards.proofs.stepping.carry_out.Goals as goal
 

@@ -1,4 +1,4 @@
-use Rattle.std.proofs.Common.{ℕ, rules}
+use Rattle.std.proofs.Common.{rules}
 use Rattle.worked_boards.proofs.StreamSteps.{two_of_two}
 use Rattle.worked_boards.proofs.stepping.carry_out_two.Goals as goal
 
