@@ -17,7 +17,7 @@ use Rattle.board.specs.Runs.{Run, more}
 use Rattle.stream.specs.Replies.{call_of, reply_at}
 use Rattle.stream.specs.Steps.{Found, at_end, no_command, command, found_at, stepping, WritesLine, Takes, Steps}
 use Rattle.stream.specs.declared.Stepped.{Stepped}
-use Rattle.worked_boards.specs.Stepping.{CarriesRuns, Moved, CarriesOut, CarriesOutTwo}
+use Rattle.worked_boards.specs.Stepping.{CarriesRuns, Grants, next_place, Moved, CarriesOut, CarriesOutTwo}
 use Rattle.worked_boards.proofs.Refusals.{not_refused}
 
 -- ---- the line
@@ -72,14 +72,20 @@ module _ {B R F : Type 0} (graph : B → Graph) (made : B → Type 0) (ledger : 
   carries_run (no_command why) s place from p t out takes = λ first run. subst (Run graph made ledger fixed before first) (sym takes.0) run
   carries_run (command c) s place from p t out takes = λ first run. more s run (call_of c) takes.answered t takes.steps
 
-  moved : (f : Found) (s : Board B R) (place : ℕ) (from : List ℕ) (p : Stepped) (t : Board B R) (out : List ℕ) (granted : Bool) →
+  -- what a step tells, by what it found
+  record Tells (f : Found) (s : Board B R) (place next : ℕ) (granted : Bool) (t : Board B R) : Type 0 where
+    next_is : next ≡ next_place f place
+    grants : Grants graph made ledger fixed before f s granted
+    unmoved : granted ≡ false → t ≡ s
+
+  tells : (f : Found) (s : Board B R) (place : ℕ) (from : List ℕ) (p : Stepped) (t : Board B R) (out : List ℕ) (granted : Bool) →
       Takes graph made ledger fixed before f s place from p t out → ((text : List ℕ) (n : ℕ) → WritesLine text n from p out → granted ≡ no_refusal text) →
-      Moved graph made ledger fixed before f s place p.place granted t
-  moved at_end s place from p t out granted takes reads =
+      Tells f s place p.place granted t
+  tells at_end s place from p t out granted takes reads =
       record { next_is = takes.1.place_is; grants = reads _ _ takes.1; unmoved = λ no. takes.0 }
-  moved (no_command why) s place from p t out granted takes reads =
+  tells (no_command why) s place from p t out granted takes reads =
       record { next_is = takes.1.place_is; grants = reads _ _ takes.1; unmoved = λ no. takes.0 }
-  moved (command c) s place from p t out granted takes reads =
+  tells (command c) s place from p t out granted takes reads =
       let told : granted ≡ is_ok takes.answered = reads _ _ takes.writes ∙ line_tells c place takes.answered in
       record {
         next_is = takes.writes.place_is;
@@ -93,7 +99,17 @@ module _ {B R F : Type 0} (graph : B → Graph) (made : B → Type 0) (ledger : 
     carried from out p granted long steps reads = record {
       run = carries_run (found_at stream place) s place from p t out steps.answers.1;
       kept = tt;
-      answers = (sym long ∙ steps.answers.0, moved (found_at stream place) s place from p t out granted steps.answers.1 reads);
+      answers = (
+        sym long ∙ steps.answers.0,
+        let told = tells (found_at stream place) s place from p t out granted steps.answers.1 reads in
+        record {
+          next_is = told.next_is;
+          grants = told.grants;
+          unmoved = told.unmoved;
+          by_rules = λ stood. (steps.by_rules stood).position_is;
+          stands = λ stood. (steps.by_rules stood).stands;
+        },
+      );
     }
 
     pub not_carried : (from out : List ℕ) (e : Refused) → stepping stream from ≡ unless_short stream None → Steps graph made ledger fixed before s stream place from (Err e) t out →

@@ -8,10 +8,16 @@ use Rattle.rules.specs.Calls.{reason}
 use Rattle.rules.specs.Repair.{Ranking}
 use Rattle.commands.specs.Commands.{bytes, unless_short}
 use Rattle.board.specs.declared.Board.{Board}
-use Rattle.board.specs.Boards.{position}
+use Rattle.board.specs.Boards.{position, Stands}
 use Rattle.board.specs.Runs.{Run}
 use Rattle.stream.specs.Replies.{call_of}
-use Rattle.stream.specs.Steps.{Found, at_end, no_command, command, found_at}
+use Rattle.stream.specs.Steps.{Found, at_end, no_command, command, found_at, step_of}
+
+-- the place after what stands at a place
+abbrev pub next_place : Found → ℕ → ℕ
+next_place at_end place = place
+next_place (no_command why) place = place
+next_place (command c) place = place + length (bytes c)
 
 module _
     {B R F : Type 0} (graph : B → Graph) (made : B → Type 0) (ledger : B → Ledger) (fixed : B → F)
@@ -30,18 +36,15 @@ module _
   Grants (command c) s granted =
       made s.book → granted ≡ is_none (reason (position graph ledger s) (call_of c))
 
-  -- the place after what stands at a place
-  abbrev pub next_place : Found → ℕ → ℕ
-  next_place at_end place = place
-  next_place (no_command why) place = place
-  next_place (command c) place = place + length (bytes c)
-
-  -- where nothing is granted, the board is as it was
+  -- where nothing is granted, the board is as it was. A board that stands goes by the rules
   pub record Moved (f : Found) (s : Board B R) (place next : ℕ) (granted : Bool) (t : Board B R)
       : Type 0 where
     pub next_is : next ≡ next_place f place
     pub grants : Grants f s granted
     pub unmoved : granted ≡ false → t ≡ s
+    pub by_rules : Stands graph made ledger s → position graph ledger t ≡
+        (step_of (before s.ranking) (position graph ledger s) place f).position
+    pub stands : Stands graph made ledger s → Stands graph made ledger t
 
   -- a step at a place of a stream led from the board s to t
   pub record CarriesOut (s : Board B R) (stream : List ℕ) (place : ℕ)
