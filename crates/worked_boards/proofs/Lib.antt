@@ -7,3 +7,4 @@ mod StreamSteps
 mod ByLaw
 mod PlayedOut
 mod Lent
+mod HiddenWords

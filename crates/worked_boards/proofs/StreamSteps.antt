@@ -102,13 +102,13 @@ module _ {B R F : Type 0} (graph : B → Graph) (made : B → Type 0) (ledger : 
       answers = (
         sym long ∙ steps.answers.0,
         let told = tells (found_at stream place) s place from p t out granted steps.answers.1 reads in
-        record {
-          next_is = told.next_is;
-          grants = told.grants;
-          unmoved = told.unmoved;
-          by_rules = λ stood. (steps.by_rules stood).position_is;
-          stands = λ stood. (steps.by_rules stood).stands;
-        },
+            record {
+              next_is = told.next_is;
+              grants = told.grants;
+              unmoved = told.unmoved;
+              by_rules = λ stood. (steps.by_rules stood).position_is;
+              stands = λ stood. (steps.by_rules stood).stands;
+            },
       );
     }
 

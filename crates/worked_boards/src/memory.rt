@@ -10,6 +10,7 @@ ghost use Rattle.worked_boards.specs.Lent.{PlaysOut, LendsWords, LendsNumbers};
 use crate::link_all;
 use board::Board;
 use books::bit_matrix::BitMatrix;
+use filter::ClassFilter;
 use links::{Book, Links, Refused};
 use ranking::ByNumber;
 use rows::SortedRows;
@@ -56,5 +57,27 @@ pub fn play_in_numbers<'a>(
     SortedRows::check(6, 5, 8, numbers)?;
     let mut board = Board::open(SortedRows::new(6, 5, 8, numbers), ByNumber);
     let _ = play_out(&mut board)?;
+    Ok(board)
+}
+
+/// Plays on a board over a filter that hides the link of 0 and 1 in a bit matrix, which has that of
+/// 1 and 2 as well. Through the board only the second can be removed, and the first stays in the
+/// words. Refused with 3 (book) where there are fewer than three.
+pub fn play_behind_filter<'a>(
+    words: &'a mut [u64],
+) -> Result<Board<ClassFilter<BitMatrix<'a>>, ByNumber>, Refused>
+    ensures { Answers (checking 3 3 (length words.old)) result
+        (λ board. LendsWords words.entry board.book.below.words
+        (2 ∷ 1 ∷ 0 ∷ drop 3 words.old)) }
+{
+    books::theorems::memory_follows();
+    BitMatrix::check(3, 3, words)?;
+    let mut below = BitMatrix::new(3, 3, words);
+    below.add(0, 1)?;
+    below.add(1, 2)?;
+    let book = ClassFilter::new(below, &[1, 2, 0], [0, 4, 0, 0, 0, 0, 0, 0]);
+    let mut board = Board::open(book, ByNumber);
+    let _ = board.unlink(0, 1);
+    board.unlink(1, 2)?;
     Ok(board)
 }
