@@ -1,4 +1,4 @@
-// How a board is opened on a book.
+// How a board is opened on a book, and let go.
 ghost use Rattle.std.specs.Prelude.{◌≡◌, ◌+◌, ◌<◌};
 ghost use Rattle.tables.specs.Changes.{OfBook};
 ghost use Rattle.board.specs.Boards.{Opens};
@@ -53,5 +53,14 @@ impl<B: Book, R: Ranking> Board<B, R> {
             ranking,
             tables,
         }
+    }
+}
+
+impl<B, R: Drop> Board<B, R> {
+    /// Lets the board go and gives its book back, with the links that it has now.
+    pub fn into_book(self) -> B
+        ensures { result ≡ self.book }
+    {
+        self.book
     }
 }

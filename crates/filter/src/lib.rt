@@ -55,6 +55,16 @@ impl<B> ClassFilter<B> {
     }
 }
 
+impl<B> ClassFilter<B> {
+    /// Lets the filter go and gives the book below back, with the links that it has now, hidden ones
+    /// among them.
+    pub fn into_below(self) -> B
+        ensures { result ≡ self.below }
+    {
+        self.below
+    }
+}
+
 impl<B: Book> ClassFilter<B> {
     /// Gives each load the class at its place: one above 7 counts as 7, a load past the end of the
     /// slice has class 0, and classes past the 256th are of no load. Classes i and j are barred by

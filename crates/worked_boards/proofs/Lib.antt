@@ -3,3 +3,8 @@ mod Played
 mod Positions
 mod Brought
 mod HiddenLinks
+mod StreamSteps
+mod ByLaw
+mod PlayedOut
+mod Lent
+mod HiddenWords

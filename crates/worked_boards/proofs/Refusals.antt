@@ -1,6 +1,6 @@
 -- A refusal is known by what it tells.
 use Rattle.std.proofs.Common.{◌≡◌, ℕ, List, [], ◌∷◌, get_or, Some, None, Ok, Err, Option, Result, sym, refl, ap, ◌∙◌, arith}
-use Rattle.links.specs.Refusals.{Reason, Answers, meaning, told}
+use Rattle.links.specs.Refusals.{Reason, Answers, Kept, meaning, told}
 use Rattle.links.specs.declared.refusal.Refusal.{Refusal}
 use Rattle.links.specs.declared.refusal.Refusal.TheVariants.{SizeOutOfRange, LimitOutOfRange, WrongLength, NoSuchLoad, SameLoad, AlreadyLinked, NotLinked, Barred, LoadFull, BookFull, NoPartner, UnknownCommand, CutShort, OutputTooShort, BadEntry}
 use Rattle.links.specs.declared.refusal.Refused.{Refused}
@@ -57,3 +57,11 @@ err_granted e a same = let z : ◌≡◌ {A = ℕ} 0 1 = cc in omega arith
 
 pub granted_same : {A : Type 0} (a b : A) → ◌≡◌ {A = Result A Refused} (Ok a) (Ok b) → a ≡ b
 granted_same a b same = cc
+
+pub granted_answers : {A : Type 0} (o : Option Reason) (r : Result A Refused) (a : A) (P : Type 0) → r ≡ Ok a → o ≡ None → P → Answers o r (λ x. (x ≡ a) × P)
+granted_answers o (Ok x) a P same none p = (none, (granted_same x a same, p))
+granted_answers o (Err e) a P same none p = absurd (err_granted e a same)
+
+pub granted_keeps : {A S : Type 0} (r : Result A Refused) (a : A) (s t : S) → r ≡ Ok a → Kept r s t
+granted_keeps (Ok x) a s t same = tt
+granted_keeps (Err e) a s t same = absurd (err_granted e a same)

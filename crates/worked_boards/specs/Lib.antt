@@ -1,1 +1,4 @@
 pub mod Played
+pub mod Stepping
+pub mod Lawful
+pub mod Lent

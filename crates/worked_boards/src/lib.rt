@@ -16,15 +16,17 @@ use ranking::detour::{ByDetour, Place};
 use ranking::{ByNumber, Ranking};
 use rows::SortedRows;
 
+pub mod law;
+pub mod memory;
+pub mod stepping;
+
 // Links each pair of loads in turn, up to the first that is refused.
 fn link_all<B: Book, R: Ranking>(
     board: &mut Board<B, R>,
     pairs: &[(usize, usize)],
 ) -> Result<(), Refused>
-    ensures {
-        Plays B.Links.graph B.Links.made B.Book.ledger B.Book.fixed R.Ranking.before
-        board.old pairs.now result board.new
-    }
+    ensures { Plays B.Links.graph B.Links.made B.Book.ledger B.Book.fixed R.Ranking.before
+        board.old pairs.now result board.new }
 {
     for &(a, b) in pairs {
         board.link(a, b)?;
