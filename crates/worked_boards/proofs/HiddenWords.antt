@@ -12,7 +12,7 @@ use Rattle.filter.specs.Classes.{class_of, bars_classes, hidden, filter_graph, f
 use Rattle.rules.specs.Boards.{by_number}
 use Rattle.rules.specs.Calls.{Position, unlink, reason, after}
 use Rattle.worked_boards.proofs.HiddenLinks.{hides, start}
-use Rattle.worked_boards.proofs.Lent.{Words}
+use Rattle.worked_boards.proofs.Lent.{Narrow, Words}
 
 -- after 0 and 1 could not be unlinked, and 1 and 2 were
 abbrev pub after_hidden : Position
@@ -53,6 +53,10 @@ left = record {
   not_20 = refl;
   not_21 = refl;
 }
+
+-- the three words that are left
+pub three_narrow : Narrow 3 (2 ∷ 1 ∷ 0 ∷ [])
+three_narrow = record { small = omega arith; size = refl; narrow = refl }
 
 pub three_words_long : (memory : ℕ) → checking 3 3 memory ≡ None → 3 ≤ memory
 three_words_long memory none = grind (arith, nat_tests)
@@ -113,10 +117,8 @@ module _ (f : ClassFilter BitMatrix) (x : Position) (graph_is : filter_graph mat
   pub hidden_words : Words 3 (matrix_graph f.below) (2 ∷ 1 ∷ 0 ∷ [])
   unfolding bit
   hidden_words = record {
-    small = omega arith;
+    values_are = three_narrow;
     one_word = refl;
-    size = refl;
-    narrow = refl;
     bits =
         let l00 = sym (loop 0 (omega arith)) in
         let l01 = sym link_01 in

@@ -4,9 +4,10 @@ use Rattle.std.proofs.lemmas.Bool.{cases_lt, ltb-true}
 use Rattle.std.proofs.lemmas.Grind.{same_number_lists}
 use Rattle.std.proofs.lemmas.List.{length-drop, get_or-drop, drop-drop, take-append-drop, get_or_append_left, get_or-append_right}
 use Rattle.std.proofs.lemmas.Nat.Bits.{bit_at_above}
-use Rattle.std.proofs.Math.Nat.{add-mul}
+use Rattle.std.proofs.Math.Nat.{add-mul, pow-le-pow_right}
 use Rattle.graph.specs.Graph.{Graph, degree}
 use Rattle.bits.specs.Bit.{bit}
+use Rattle.bits.proofs.Bitwise.{same_word}
 use Rattle.links.specs.Refusals.{Reason}
 use Rattle.books.specs.declared.bit_matrix.BitMatrix.{BitMatrix}
 use Rattle.books.specs.Matrix.{row_words, all_words, matrix_graph, MatrixMade, matrix_fixed, Making}
@@ -16,7 +17,7 @@ use Rattle.rows.specs.declared.SortedRows.{SortedRows}
 use Rattle.rows.specs.Rows.{book_graph, BookMade, rows_fixed, Making as RowsMaking}
 use Rattle.rows.specs.Theorems.{linked_loads, MemoryHolds as RowsMemoryHolds, MemoryFollows as RowsFollow}
 use Rattle.rules.specs.Boards.{listed}
-use Rattle.worked_boards.specs.Lent.{SameWords}
+use Rattle.worked_boards.specs.Lent.{WordsAre}
 use Rattle.worked_boards.proofs.ByLaw.{get_listed}
 
 -- equal lists of values are equal values
@@ -31,19 +32,23 @@ bit_above w n j fits past = ap (λ (x : ℕ). eqb x 1) (bit_at_above w n j fits 
 
 -- ---- a bit matrix of at most 64 loads
 
--- the words that a graph of n loads gives
-pub record Words (n : ℕ) (g : Graph) (values : List ℕ) : Type 0 where
+-- n values of at most n bits
+pub record Narrow (n : ℕ) (values : List ℕ) : Type 0 where
   pub small : n ≤ 64
-  pub one_word : row_words n ≡ 1
   pub size : length values ≡ n
   pub narrow : listed (λ a. nat_lt (get_or values a 0) (2 ^ n)) 0 n ≡ listed (λ _. true) 0 n
+
+-- the words that a graph of n loads gives
+pub record Words (n : ℕ) (g : Graph) (values : List ℕ) : Type 0 where
+  pub values_are : Narrow n values
+  pub one_word : row_words n ≡ 1
   pub bits : listed (λ a. listed (bit (get_or values a 0)) 0 n) 0 n ≡ listed (λ a. listed (g.linked a) 0 n) 0 n
 
 module _ (n : ℕ) (g : Graph) (values before after : List ℕ) (words : Words n g values) (holds : MemoryHolds n g before after) where
   word : (a j : ℕ) → a < n → j < 64 → bit (get_or after a 0) j ≡ bit (get_or values a 0) j
   word a j l h =
       let v = get_or values a 0 in
-      let narrow : v < 2 ^ n = ltb-true v (2 ^ n) (at_list (λ b. nat_lt (get_or values b 0) (2 ^ n)) (λ _. true) n a words.narrow l) in
+      let narrow : v < 2 ^ n = ltb-true v (2 ^ n) (at_list (λ b. nat_lt (get_or values b 0) (2 ^ n)) (λ _. true) n a words.values_are.narrow l) in
       let row : listed (bit v) 0 n ≡ listed (g.linked a) 0 n = at_list (λ b. listed (bit (get_or values b 0)) 0 n) (λ b. listed (g.linked b) 0 n) n a words.bits l in
       let inside : a < g.size = omega (arith, holds.same_size) in
       let width : row_words g.size ≡ 1 = ap row_words holds.same_size ∙ words.one_word in
@@ -58,18 +63,33 @@ module _ (n : ℕ) (g : Graph) (values before after : List ℕ) (words : Words n
             holds.matrix.padding a 0 j inside some h past ∙ sym (bit_above v n j narrow m)
       ]
 
-  pub words_then : n ≤ length before → SameWords after (values ++ drop n before)
-  words_then long = record {
-    same_length = omega (arith, holds.same_length, length-append values (drop n before), length-drop n before, words.size);
-    same_bits = λ k j h. elim (cases_lt k n) [
-      | inl m ↦ word k j m h ∙ ap (λ (x : ℕ). bit x j) (sym (get_or_append_left values (drop n before) 0 k (omega (arith, words.size))))
-      | inr m ↦
-          let need : all_words n ≡ n = ap (λ (w : ℕ). n * w) words.one_word ∙ omega arith in
-          let place : n + (k - n) ≡ k = omega arith in
-          ap (λ (x : ℕ). bit x j)
-          (holds.beyond k (omega (arith, need)) ∙ ap (λ (i : ℕ). get_or before i 0) (sym place) ∙ sym (get_or-drop n before (k - n) 0) ∙ sym (get_or-append_right values (drop n before) n k 0 words.size m))
-    ];
+  pub words_then : WordsAre values before after
+  words_then = record {
+    same_length = holds.same_length;
+    bits = λ k j l. word k j (omega (arith, words.values_are.size));
+    beyond = λ k l.
+        let need : all_words n ≡ n = ap (λ (w : ℕ). n * w) words.one_word ∙ omega arith in
+        holds.beyond k (omega (arith, need, words.values_are.size));
   }
+
+-- memory that was lent, and in which no word has more than 64 bits
+pub words_exact : (n : ℕ) (values before after lent : List ℕ) → Narrow n values → WordsAre values before after → lent ≡ after → ((i : ℕ) → get_or lent i 0 < 2 ^ 64) →
+    n ≤ length before → lent ≡ values ++ drop n before
+words_exact n values before after lent words are same fits long =
+    same_number_lists lent (values ++ drop n before) (omega (arith, ap length same, are.same_length, length-append values (drop n before), length-drop n before, words.size))
+    (λ k l. ap (λ (xs : List ℕ). get_or xs k 0) same ∙ elim (cases_lt k n) [
+      | inl m ↦
+          let v = get_or values k 0 in
+          let narrow : v < 2 ^ n = ltb-true v (2 ^ n) (at_list (λ b. nat_lt (get_or values b 0) (2 ^ n)) (λ _. true) n k words.narrow m) in
+          let fits-v : v < 2 ^ 64 = omega (arith, narrow, pow-le-pow_right {n = 2} (omega arith) {i = n} {j = 64} words.small) in
+          let fits-k : get_or after k 0 < 2 ^ 64 = subst (λ (xs : List ℕ). get_or xs k 0 < 2 ^ 64) same (fits k) in
+          same_word (get_or after k 0) v fits-k fits-v (λ j h. are.bits k j (omega (arith, words.size)) h)
+          ∙ sym (get_or_append_left values (drop n before) 0 k (omega (arith, words.size)))
+      | inr m ↦
+          let place : n + (k - n) ≡ k = omega arith in
+          are.beyond k (omega (arith, words.size)) ∙ ap (λ (i : ℕ). get_or before i 0) (sym place) ∙ sym (get_or-drop n before (k - n) 0)
+          ∙ sym (get_or-append_right values (drop n before) n k 0 words.size m)
+    ])
 
 -- ---- rows
 
@@ -114,10 +134,10 @@ numbers_then n d g before after holds =
 
 module _ (n limit : ℕ) (reason : Option Reason) (before : List ℕ) (m u : BitMatrix) (g : Graph) (values : List ℕ) where
   pub words_left : reason ≡ None → Making reason n limit before m → matrix_fixed u ≡ matrix_fixed m → matrix_graph u ≡ g → MatrixMade u → MemoryFollows → Words n g values →
-      n ≤ length before → SameWords u.words.now (values ++ drop n before)
-  words_left none making stays graph_u made_u follows words long =
+      WordsAre values before u.words.now
+  words_left none making stays graph_u made_u follows words =
       let holds = follows n limit before m u (subst (λ (o : Option Reason). Making o n limit before m) none making) stays made_u in
-      words_then n g values before u.words.now words (subst (λ (h : Graph). MemoryHolds n h before u.words.now) graph_u holds) long
+      words_then n g values before u.words.now words (subst (λ (h : Graph). MemoryHolds n h before u.words.now) graph_u holds)
 
 module _ (n d limit : ℕ) (reason : Option Reason) (before : List ℕ) (s u : SortedRows) (g : Graph) where
   pub numbers_left : reason ≡ None → RowsMaking reason n d limit before s → rows_fixed u ≡ rows_fixed s → book_graph u ≡ g → BookMade u → RowsFollow →
@@ -125,3 +145,7 @@ module _ (n d limit : ℕ) (reason : Option Reason) (before : List ℕ) (s u : S
   numbers_left none making stays graph_u made_u follows =
       let holds = follows n d limit before s u (subst (λ (o : Option Reason). RowsMaking o n d limit before s) none making) stays made_u in
       numbers_then n d g before u.rows.now (subst (λ (h : Graph). RowsMemoryHolds n d h before u.rows.now) graph_u holds)
+
+-- the same of numbers that were lent
+pub numbers_exact : (lent held expected : List ℕ) → lent ≡ held → held ≡ expected → lent ≡ expected
+numbers_exact lent held expected same are = same ∙ are

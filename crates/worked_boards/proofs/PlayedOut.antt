@@ -54,7 +54,7 @@ departed_links =
 
 pub six_words : Words 6 links_left (4 ∷ 32 ∷ 1 ∷ 0 ∷ 0 ∷ 2 ∷ [])
 unfolding bit
-six_words = record { small = omega arith; one_word = refl; size = refl; narrow = refl; bits = refl }
+six_words = record { values_are = record { small = omega arith; size = refl; narrow = refl }; one_word = refl; bits = refl }
 
 pub six_words_long : (memory : ℕ) → checking 6 8 memory ≡ None → 6 ≤ memory
 six_words_long memory none = grind (arith, nat_tests)

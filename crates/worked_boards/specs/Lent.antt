@@ -1,6 +1,5 @@
 -- A board of six loads played out on a book in lent memory.
-use Rattle.std.specs.Prelude.{◌≡◌, ℕ, ◌<◌, List, length, Ok, Err, Result, slice_index}
-use Rattle.std.specs.Borrow.{MutBor}
+use Rattle.std.specs.Prelude.{◌≡◌, ℕ, ◌<◌, ◌≤◌, List, length, Ok, Err, Result, slice_index}
 use Rattle.graph.specs.Graph.{Graph, edgeless, added, removed}
 use Rattle.graph.specs.Isolated.{isolated}
 use Rattle.bits.specs.Bit.{bit}
@@ -35,17 +34,9 @@ pub record PlaysOut
   pub graph_is : Stands graph made ledger s → position graph ledger s ≡ fresh 6 8 →
       graph t.book ≡ links_left
 
--- the same number of words, each with the same 64 bits
-pub record SameWords (xs ys : List ℕ) : Type 0 where
-  pub same_length : length xs ≡ length ys
-  pub same_bits : (k j : ℕ) → j < 64 → bit (slice_index xs k) j ≡ bit (slice_index ys k) j
-
--- the reference `held` is the one that was lent, and behind it are these words
-pub record LendsWords (lent held : MutBor (List ℕ)) (words : List ℕ) : Type 0 where
-  pub same_reference : held.ghost_name ≡ lent.ghost_name
-  pub now_are : SameWords held.now words
-
--- the same of numbers
-pub record LendsNumbers (lent held : MutBor (List ℕ)) (numbers : List ℕ) : Type 0 where
-  pub same_reference : held.ghost_name ≡ lent.ghost_name
-  pub now_are : held.now ≡ numbers
+-- memory of as many words as before: first these values, bit by bit, and then what was there before
+pub record WordsAre (values before after : List ℕ) : Type 0 where
+  pub same_length : length after ≡ length before
+  pub bits : (k j : ℕ) → k < length values → j < 64 →
+      bit (slice_index after k) j ≡ bit (slice_index values k) j
+  pub beyond : (k : ℕ) → length values ≤ k → slice_index after k ≡ slice_index before k

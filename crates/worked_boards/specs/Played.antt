@@ -24,13 +24,18 @@ or_else (Some r) later = Some r
 -- why the first of the calls that is refused is refused, if any is
 abbrev pub first_refusal : Ranking → List Call → Position → Option Reason
 first_refusal before [] x = None
-first_refusal before (c ∷ rest) x = or_else (reason x c) (first_refusal before rest (after before x c))
+first_refusal before (c ∷ rest) x =
+    or_else (reason x c) (first_refusal before rest (after before x c))
 
--- links made on a board s up to the first refusal, answered r, lead to the board t: each run that came to s has come to t, and
--- where s stood and all are granted, t is at the position that the rules lead to
-pub record Plays {B R F : Type 0} (graph : B → Graph) (made : B → Type 0) (ledger : B → Ledger) (fixed : B → F)
-    (before : R → Ranking) (s : Board B R) (pairs : List (ℕ × ℕ)) (r : Result Unit Refused) (t : Board B R) : Type 0 where
-  pub run : (first : Board B R) → Run graph made ledger fixed before first s → Run graph made ledger fixed before first t
+-- links made on a board s up to the first refusal, answered r, lead to the board t: each run that
+-- came to s has come to t, and where s stood and all are granted, t is at the position that the
+-- rules lead to
+pub record Plays {B R F : Type 0} (graph : B → Graph) (made : B → Type 0) (ledger : B → Ledger)
+    (fixed : B → F)
+    (before : R → Ranking) (s : Board B R) (pairs : List (ℕ × ℕ)) (r : Result Unit Refused)
+    (t : Board B R) : Type 0 where
+  pub run : (first : Board B R) → Run graph made ledger fixed before first s →
+      Run graph made ledger fixed before first t
   pub answers : Stands graph made ledger s →
       let x = position graph ledger s in
       let order = before s.ranking in
@@ -41,4 +46,5 @@ pub record Plays {B R F : Type 0} (graph : B → Graph) (made : B → Type 0) (l
 abbrev pub Reads : {B R : Type 0} → (B → Graph) → (B → Type 0) → (B → Ledger) → Board B R → ℕ →
     Result (List (Option ℕ)) Refused → Type 0
 Reads graph made ledger s n r =
-    Stands graph made ledger s → n ≤ (graph s.book).size → r ≡ Ok (listed (partners_of s.tables) 0 n)
+    Stands graph made ledger s → n ≤ (graph s.book).size →
+    r ≡ Ok (listed (partners_of s.tables) 0 n)

@@ -1,5 +1,5 @@
-// Boards played through on real books. What must come of each stands in its contract, and follows from the contracts of
-// boards, books and rankings alone.
+// Boards played through on real books. What must come of each stands in its contract, and follows
+// from the contracts of boards, books and rankings alone.
 #![tactic(auto)]
 
 ghost use Rattle.std.specs.Prelude.{◌≡◌, [], ◌∷◌, Some, None, Ok, Err};
@@ -47,8 +47,8 @@ fn partners<B: Book, R: Ranking, const N: usize>(
     Ok(partners)
 }
 
-// Six loads, on any book of that size that has no links yet and takes eight: when 0 and 1 are unlinked, both find other
-// partners.
+/// Six loads, on any book of that size that has no links yet and takes eight: when 0 and 1 are
+/// unlinked, both find other partners.
 pub fn six_loads<B: Book + Drop>(book: B) -> Result<[Option<usize>; 6], Refused>
     ensures { Stands B.Links.graph B.Links.made B.Book.ledger book (edgeless 6) (fresh_ledger 6 8) → result ≡ Ok (Some 2 ∷ Some 5 ∷ Some 0 ∷ Some 4 ∷ Some 3 ∷ Some 1 ∷ []) }
 {
@@ -68,7 +68,7 @@ pub fn six_loads_on_bit_matrix() -> Result<[Option<usize>; 6], Refused>
     six_loads(BitMatrix::new(6, 8, &mut words))
 }
 
-// A row takes five, so that every load can be linked to every other, as in a bit matrix.
+/// A row takes five, so that every load can be linked to every other, as in a bit matrix.
 pub fn six_loads_on_rows() -> Result<[Option<usize>; 6], Refused>
     ensures { result ≡ Ok (Some 2 ∷ Some 5 ∷ Some 0 ∷ Some 4 ∷ Some 3 ∷ Some 1 ∷ []) }
 {
@@ -76,14 +76,15 @@ pub fn six_loads_on_rows() -> Result<[Option<usize>; 6], Refused>
     six_loads(SortedRows::new(6, 5, 8, &mut numbers))
 }
 
-// The partners of seven loads, before a link and after it.
+/// The partners of seven loads, before a link and after it.
 #[derive(Drop)]
 pub struct Displacement {
     pub before: [Option<usize>; 7],
     pub after: [Option<usize>; 7],
 }
 
-// Load 0 has four links and is free; with the fifth it has more than the threshold, and displaces load 2.
+/// Load 0 has four links and is free; with the fifth it has more than the threshold, and displaces
+/// load 2.
 pub fn heavy_load_on_bit_matrix() -> Result<Displacement, Refused>
     ensures { result ≡ Ok (record { before = None ∷ Some 2 ∷ Some 1 ∷ Some 4 ∷ Some 3 ∷ Some 6 ∷ Some 5 ∷ []; after = Some 1 ∷ Some 0 ∷ None ∷ Some 4 ∷ Some 3 ∷ Some 6 ∷ Some 5 ∷ [] }) }
 {
@@ -99,7 +100,7 @@ pub fn heavy_load_on_bit_matrix() -> Result<Displacement, Refused>
     Ok(Displacement { before, after })
 }
 
-// What a board on a filter that hides the link of 0 and 1 answers.
+/// What a board on a filter that hides the link of 0 and 1 answers.
 #[derive(Drop)]
 pub struct Filtered {
     // to linking 0 and 1, and to unlinking them
@@ -110,8 +111,8 @@ pub struct Filtered {
     pub free_links: Result<usize, Refused>,
 }
 
-// A bit matrix brings the links 0–1 and 1–2, and the classes of 0 and 1 are barred: 1 and 2 are partners, 0 is free, and
-// as far as the board goes 0 and 1 are not linked, and cannot be.
+/// A bit matrix brings the links 0–1 and 1–2, and the classes of 0 and 1 are barred: 1 and 2 are
+/// partners, 0 is free, and as far as the board goes 0 and 1 are not linked, and cannot be.
 pub fn behind_a_filter() -> Result<Filtered, Refused>
     ensures { result ≡ Ok (record { linking = Err (record { refusal = Refusal.Barred; layer = Layer.Book }); unlinking = Err (record { refusal = Refusal.NotLinked; layer = Layer.Book }); partners = Ok (None ∷ Some 2 ∷ Some 1 ∷ []); free_links = Ok 0 }) }
 {
@@ -129,7 +130,8 @@ pub fn behind_a_filter() -> Result<Filtered, Refused>
     })
 }
 
-// Load 0 is linked to 1, by a detour of 7, and to 2, by one of 6: 2 is its partner, though 1 has the lower number.
+/// Load 0 is linked to 1, by a detour of 7, and to 2, by one of 6: 2 is its partner, though 1 has
+/// the lower number.
 pub fn nearer_partner_first() -> Result<[Option<usize>; 3], Refused>
     ensures { result ≡ Ok (Some 2 ∷ None ∷ Some 0 ∷ []) }
 {

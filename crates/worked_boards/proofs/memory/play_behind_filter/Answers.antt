@@ -1,64 +1,16 @@
-use Rattle.std.proofs.Common.{◌≡◌, [], ◌∷◌, Ok, Err, Option, refl, ap, ◌∙◌, subst}
-use Rattle.graph.specs.Graph.{edgeless, added}
-use Rattle.links.specs.Books.{lowered}
-use Rattle.links.specs.Refusals.{Reason}
-use Rattle.books.specs.Matrix.{matrix_graph, MatrixFixed, matrix_fixed, Making}
-use Rattle.filter.specs.Classes.{filtered, filtered_ledger, FilterFixed, filter_fixed}
-use Rattle.rules.specs.Boards.{fresh_ledger}
-use Rattle.rules.specs.Calls.{Position, unlink}
-use Rattle.board.specs.Runs.{none, more}
-use Rattle.worked_boards.proofs.Brought.{add_answers, behind}
-use Rattle.worked_boards.proofs.HiddenLinks.{hides, brought, allowed, start}
-use Rattle.worked_boards.proofs.HiddenWords.{after_hidden, after_visible, unlinks, left, three_words_long, same_hidden, hidden_words}
-use Rattle.worked_boards.proofs.Lent.{words_left}
-use Rattle.worked_boards.proofs.Positions.{at_opening, call_answers, at_call}
-use Rattle.worked_boards.proofs.Refusals.{not_refused}
+use Rattle.std.proofs.Common.{arith, rules, ◌∷◌, []}
+use Rattle.worked_boards.proofs.Lent.{words_exact}
+use Rattle.worked_boards.proofs.HiddenWords.{three_narrow, three_words_long}
 use Rattle.worked_boards.proofs.memory.play_behind_filter.Goals as goal
-
-pub returns-in_err-add-2 : goal.returns-in_err-add-2
-returns-in_err-add-2 c =
-    let e = c.in_err-add-2.field-0.0 in
-    let making = (subst (λ (o : Option Reason). Making o 3 3 c.args.words.now c.new-below.result) c.in_ok-check.ensures.0 c.new-below.ensures.making).0 in
-    let once = (add_answers c.new-below.result c.add.new.self (edgeless 3) (fresh_ledger 3 3) 0 1 (Ok tt) making c.in_ok-add.ensures.book).1 in
-    absurd (not_refused e refl (add_answers c.add.new.self c.add-2.new.self (added (edgeless 3) 0 1) (lowered (fresh_ledger 3 3) 0 1) 1 2 (Err e) once c.in_err-add-2.ensures.book))
-
-pub returns-in_err-unlink : goal.returns-in_err-unlink
-returns-in_err-unlink c =
-    let e = c.in_err-unlink.field-0.0 in
-    let making = (subst (λ (o : Option Reason). Making o 3 3 c.args.words.now c.new-below.result) c.in_ok-check.ensures.0 c.new-below.ensures.making).0 in
-    let once = (add_answers c.new-below.result c.add.new.self (edgeless 3) (fresh_ledger 3 3) 0 1 (Ok tt) making c.in_ok-add.ensures.book).1 in
-    let twice = (add_answers c.add.new.self c.add-2.new.self (added (edgeless 3) 0 1) (lowered (fresh_ledger 3 3) 0 1) 1 2 (Ok tt) once c.in_ok-add-2.ensures.book).1 in
-    let over = behind c.add-2.new.self c.new-book.result brought allowed hides twice c.new-book.ensures.stands in
-    let first = c.open-board.result in
-    let opened = at_opening c.new-book.result _ first (filtered hides brought) (filtered_ledger hides 3 allowed) over c.open-board.ensures.opens in
-    let second = c.unlink.new.self in
-    let refused = at_call first second start opened (unlink 0 1) c.unlink.result c.unlink.ensures in
-    absurd (not_refused e unlinks (call_answers second c.unlink-2.new.self after_hidden refused (unlink 1 2) (Err e) c.in_err-unlink.ensures))
 
 pub returns : goal.returns
 returns c =
-    let granted = c.in_ok-check.ensures.0 in
-    let making = (subst (λ (o : Option Reason). Making o 3 3 c.args.words.now c.new-below.result) granted c.new-below.ensures.making).0 in
-    let once = (add_answers c.new-below.result c.add.new.self (edgeless 3) (fresh_ledger 3 3) 0 1 (Ok tt) making c.in_ok-add.ensures.book).1 in
-    let twice = (add_answers c.add.new.self c.add-2.new.self (added (edgeless 3) 0 1) (lowered (fresh_ledger 3 3) 0 1) 1 2 (Ok tt) once c.in_ok-add-2.ensures.book).1 in
-    let book = c.new-book.result in
-    let over = behind c.add-2.new.self book brought allowed hides twice c.new-book.ensures.stands in
-    let first = c.open-board.result in
-    let opened = at_opening book _ first (filtered hides brought) (filtered_ledger hides 3 allowed) over c.open-board.ensures.opens in
-    let second = c.unlink.new.self in
-    let refused = at_call first second start opened (unlink 0 1) c.unlink.result c.unlink.ensures in
-    let third = c.unlink-2.new.self in
-    let parted = at_call second third after_hidden refused (unlink 1 2) (Ok tt) c.in_ok-unlink.ensures in
-    let run = more second (more first none (unlink 0 1) c.unlink.result second c.unlink.ensures) (unlink 1 2) (Ok tt) third c.in_ok-unlink.ensures in
-    let moment = c.open-board.ensures.law over.still_made third run in
-    let fixed : filter_fixed matrix_fixed third.book ≡ filter_fixed matrix_fixed book = moment.fixed_is ∙ ap (filter_fixed matrix_fixed) c.open-board.ensures.opens.book_is in
-    let stays : matrix_fixed third.book.below ≡ matrix_fixed c.new-below.result =
-    ap (λ (k : FilterFixed MatrixFixed). k.below) fixed ∙ ap matrix_fixed c.new-book.ensures.below ∙ c.add-2.ensures.stays ∙ c.add.ensures.stays in
-    let hidden_is = same_hidden third.book book (1 ∷ 2 ∷ 0 ∷ []) (0 ∷ 4 ∷ 0 ∷ 0 ∷ 0 ∷ 0 ∷ 0 ∷ 0 ∷ []) (ap (λ (k : FilterFixed MatrixFixed). k.classes) fixed) (ap (λ (k : FilterFixed MatrixFixed). k.bars) fixed) c.new-book.ensures.classes c.new-book.ensures.bars in
-    let words = hidden_words third.book after_visible (ap (λ (x : Position). x.graph) parted.position_is) (ap (λ (x : Position). x.ledger) parted.position_is) moment.stands.book_made hidden_is left in (
-      granted,
-      record {
-        same_reference = ap (λ (f : MatrixFixed). f.lender) stays ∙ c.new-below.ensures.lender;
-        now_are = words_left 3 3 _ c.args.words.now c.new-below.result third.book.below (matrix_graph third.book.below) (2 ∷ 1 ∷ 0 ∷ []) granted c.new-below.ensures.making stays refl moment.stands.book_made c.memory_follows.ensures words (three_words_long _ granted);
-      },
-    )
+    let granted = c.in_ok-check.ensures in
+    record {
+      words = (
+        granted.0,
+        words_exact 3 (2 ∷ 1 ∷ 0 ∷ []) c.args.words.now c.filtered_words-book.result.words.now _ three_narrow (c.filtered_words-book.ensures.words granted.0)
+            (search rules) (λ i. omega (arith, c.type_inv.words i)) (three_words_long _ granted.0),
+      );
+      kept = tt;
+    }
