@@ -50,7 +50,8 @@ fn partners<B: Book, R: Ranking, const N: usize>(
 /// Six loads, on any book of that size that has no links yet and takes eight: when 0 and 1 are
 /// unlinked, both find other partners.
 pub fn six_loads<B: Book + Drop>(book: B) -> Result<[Option<usize>; 6], Refused>
-    ensures { Stands B.Links.graph B.Links.made B.Book.ledger book (edgeless 6) (fresh_ledger 6 8) → result ≡ Ok (Some 2 ∷ Some 5 ∷ Some 0 ∷ Some 4 ∷ Some 3 ∷ Some 1 ∷ []) }
+    ensures { Stands B.Links.graph B.Links.made B.Book.ledger book (edgeless 6) (fresh_ledger 6 8) →
+        result ≡ Ok (Some 2 ∷ Some 5 ∷ Some 0 ∷ Some 4 ∷ Some 3 ∷ Some 1 ∷ []) }
 {
     let mut board = Board::open(book, ByNumber);
     link_all(
@@ -86,7 +87,10 @@ pub struct Displacement {
 /// Load 0 has four links and is free; with the fifth it has more than the threshold, and displaces
 /// load 2.
 pub fn heavy_load_on_bit_matrix() -> Result<Displacement, Refused>
-    ensures { result ≡ Ok (record { before = None ∷ Some 2 ∷ Some 1 ∷ Some 4 ∷ Some 3 ∷ Some 6 ∷ Some 5 ∷ []; after = Some 1 ∷ Some 0 ∷ None ∷ Some 4 ∷ Some 3 ∷ Some 6 ∷ Some 5 ∷ [] }) }
+    ensures { result ≡ Ok (record {
+      before = None ∷ Some 2 ∷ Some 1 ∷ Some 4 ∷ Some 3 ∷ Some 6 ∷ Some 5 ∷ [];
+      after = Some 1 ∷ Some 0 ∷ None ∷ Some 4 ∷ Some 3 ∷ Some 6 ∷ Some 5 ∷ [];
+    }) }
 {
     let mut words = [0; 7];
     let mut board = Board::open(BitMatrix::new(7, 8, &mut words), ByNumber);
@@ -114,7 +118,12 @@ pub struct Filtered {
 /// A bit matrix brings the links 0–1 and 1–2, and the classes of 0 and 1 are barred: 1 and 2 are
 /// partners, 0 is free, and as far as the board goes 0 and 1 are not linked, and cannot be.
 pub fn behind_a_filter() -> Result<Filtered, Refused>
-    ensures { result ≡ Ok (record { linking = Err (record { refusal = Refusal.Barred; layer = Layer.Book }); unlinking = Err (record { refusal = Refusal.NotLinked; layer = Layer.Book }); partners = Ok (None ∷ Some 2 ∷ Some 1 ∷ []); free_links = Ok 0 }) }
+    ensures { result ≡ Ok (record {
+      linking = Err (record { refusal = Refusal.Barred; layer = Layer.Book });
+      unlinking = Err (record { refusal = Refusal.NotLinked; layer = Layer.Book });
+      partners = Ok (None ∷ Some 2 ∷ Some 1 ∷ []);
+      free_links = Ok 0;
+    }) }
 {
     let mut words = [0; 3];
     let mut below = BitMatrix::new(3, 3, &mut words);
