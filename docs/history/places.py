@@ -1,7 +1,7 @@
 #!/usr/bin/env python3
 """Lists the places in crates/*/src that the design pass looks at, point by point.
 
-    python3 tools/places.py [COMMIT] [--list]
+    python3 docs/history/places.py [COMMIT] [--list]
 
 Without a commit it reads the working tree. It prints how many places there are of each kind; with --list, each place too.
 It finds by the shape of the text, so that each place is still to be read.
