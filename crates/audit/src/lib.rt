@@ -109,7 +109,8 @@ impl<L: Links> Claimed<'_, L> {
     }
 
     fn first_not_returned(&self) -> Option<usize>
-        ensures { result ≡ lowest_not_returned (length self.now.claims.now) (claimed self.now.claims.now) }
+        ensures { result
+            ≡ lowest_not_returned (length self.now.claims.now) (claimed self.now.claims.now) }
     {
         (0..self.claims.len()).find(|a| !self.is_returned(*a))
     }

@@ -18,7 +18,9 @@ joins e x y = is_pair e.a e.b x y
 
 -- the load at or above `from` that the entry links to x
 abbrev pub next_joined : Entry → ℕ → ℕ → Option ℕ
-next_joined e x from = cond (e.a == x && nat_le from e.b) (Some e.b) (cond (e.b == x && nat_le from e.a) (Some e.a) None)
+next_joined e x from =
+    cond (e.a == x && nat_le from e.b) (Some e.b)
+    (cond (e.b == x && nat_le from e.a) (Some e.a) None)
 
 -- the entry is a link of x
 abbrev pub touches : Entry → ℕ → Bool
