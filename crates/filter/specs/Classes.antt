@@ -14,7 +14,7 @@ use Rattle.filter.specs.declared.ClassFilter.{ClassFilter}
 abbrev pub class_of : List ℕ → ℕ → ℕ
 class_of classes a = cond (nat_lt a 256) (min (slice_index classes a) 7) 0
 
--- bit j of byte i or bit i of byte j bars the classes i and j
+-- classes i and j are barred where byte i has bit j set, or byte j has bit i set
 unfoldable pub bars_classes : List ℕ → ℕ → ℕ → Bool
 bars_classes bars i j = bit (slice_index bars i) j || bit (slice_index bars j) i
 

@@ -21,7 +21,7 @@ pub struct ClassFilter<B> {
     below: B,
     // the class of each load, where one above 7 counts as 7
     classes: [u8; 256],
-    // classes i and j are barred by bit j of byte i or bit i of byte j
+    // classes i and j are barred where byte i has bit j set, or byte j has bit i set
     bars: [u8; 8],
 }
 

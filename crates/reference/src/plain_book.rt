@@ -74,9 +74,8 @@ impl PlainBook {
         Ok(())
     }
 
-    // Bars the pairs of which bit j of byte i or bit i of byte j is 1, where i and j are the
-    // classes of the two loads. A class above 7 counts as 7, and a load that is given none has
-    // class 0.
+    // Bars the pairs whose classes i and j are barred: byte i has bit j set, or byte j has bit i
+    // set. A class above 7 stands for 7; a load that is given none has class 0.
     pub fn bar_classes(&mut self, classes: &[u8], bars: [u8; 8]) -> Result<(), AllocError>
         ensures size { vec_len self.new.spares ≡ vec_len self.old.spares }
         ensures limit { self.new.limit ≡ self.old.limit }

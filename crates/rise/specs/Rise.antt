@@ -32,7 +32,7 @@ pub record Rises {X : Type 0} (before : X → X → Bool) (xs : List X) : Type 0
   pub later : (i j : ℕ) (d : X) → i < j → j < length xs
       → before (slice_index_or xs i d) (slice_index_or xs j d) ≡ true
 
--- record i does not come after the one before it, and each earlier record does
+-- record i is the first that breaks the order: the record in front of it does not come before it
 pub record FirstUnordered {X : Type 0} (before : X → X → Bool) (xs : List X) (i : ℕ) : Type 0 where
   pub past : 1 ≤ i
   pub within : i < length xs
