@@ -9,4 +9,6 @@ abbrev pub four_in_a_row : Graph
 four_in_a_row = added (added (added (edgeless 4) 0 1) 1 2) 2 3
 
 abbrev pub MiddleClaimed : Type 0
-MiddleClaimed = verdict four_in_a_row (claimed (65535 ∷ 2 ∷ 1 ∷ 65535 ∷ [])) ≡ meaning (PathOfThree (0, 1, 2, 3))
+MiddleClaimed =
+    verdict four_in_a_row (claimed (65535 ∷ 2 ∷ 1 ∷ 65535 ∷ []))
+    ≡ meaning (PathOfThree (0, 1, 2, 3))

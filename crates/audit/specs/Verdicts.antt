@@ -59,7 +59,8 @@ abbrev pub free_walk : Graph → Partners → ℕ → ℕ → ℕ → ℕ → Bo
 free_walk g p a x y z = is_free p a && g.linked a x && ends g p a y z
 
 abbrev pub path_over_at : Graph → Partners → ℕ → ℕ → Option (ℕ × ℕ × ℕ × ℕ)
-path_over_at g p a x = and_then (p x) (λ y. lowest g.size (λ z. then_some (free_walk g p a x y z) (a, x, y, z)))
+path_over_at g p a x =
+    and_then (p x) (λ y. lowest g.size (λ z. then_some (free_walk g p a x y z) (a, x, y, z)))
 
 abbrev pub path_of_three_at : Graph → Partners → ℕ → Option (ℕ × ℕ × ℕ × ℕ)
 path_of_three_at g p a = lowest g.size (path_over_at g p a)
@@ -87,4 +88,5 @@ auditing claims loads = cond (claims == loads) None (by Board 3)
 
 -- an audit answers the verdict, unless there is a reason to refuse it
 abbrev pub Audits : Graph → List ℕ → Result Verdict Refused → Type 0
-Audits g claims r = Answers (auditing (length claims) g.size) r (λ v. meaning v ≡ verdict g (claimed claims))
+Audits g claims r =
+    Answers (auditing (length claims) g.size) r (λ v. meaning v ≡ verdict g (claimed claims))

@@ -21,7 +21,7 @@ use std::fmt;
 #[derive(Clone, Copy, PartialEq, Eq, Debug)]
 pub enum Verdict {
     Sound,
-    // the partner that this load claims is not a load, or does not claim it back
+    // this load claims a number that is no load, or a load that does not claim it in return
     NotReturned(usize),
     // this load is not linked to the partner that it claims
     NotLinked(usize),
@@ -109,7 +109,8 @@ impl<L: Links> Claimed<'_, L> {
     }
 
     fn first_not_returned(&self) -> Option<usize>
-        ensures { result ≡ lowest_not_returned (length self.now.claims.now) (claimed self.now.claims.now) }
+        ensures { result
+            ≡ lowest_not_returned (length self.now.claims.now) (claimed self.now.claims.now) }
     {
         (0..self.claims.len()).find(|a| !self.is_returned(*a))
     }

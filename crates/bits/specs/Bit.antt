@@ -9,4 +9,5 @@ bit w k = w / 2 ^ k % 2 == 1
 
 -- the lowest bit at or above `from` that is 1, if there is one
 abbrev pub NextBit : ℕ → ℕ → Option ℕ → Type 0
-NextBit w from r = MatchOption r ((j : ℕ) → from ≤ j → bit w j ≡ false) (λ k. (k < 64) × First (bit w) from k)
+NextBit w from r =
+    MatchOption r ((j : ℕ) → from ≤ j → bit w j ≡ false) (λ k. (k < 64) × First (bit w) from k)

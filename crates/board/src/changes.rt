@@ -11,7 +11,7 @@ use links::{Book, Layer, Links, Refusal, Refused, check_two};
 use ranking::Ranking;
 use tables::Tables;
 
-// Parts a and b if they are partners.
+// If a and b are partners, they part.
 fn part_partners<L: Links>(tables: &mut Tables, links: &L, a: usize, b: usize)
     ensures { OfBook (L.Links.made links.now) (L.Links.graph links.now)
         (λ g. PartsPartners g a b tables.old tables.new) }

@@ -104,7 +104,12 @@ checking n limit memory =
 
 abbrev pub fresh : ℕ → ℕ → Ledger
 fresh n limit =
-    record { limit = limit; barred = λ _ _. false; spare = λ a. cond (nat_lt a n) (n - 1) 0; room = limit }
+    record {
+      limit = limit;
+      barred = λ _ _. false;
+      spare = λ a. cond (nat_lt a n) (n - 1) 0;
+      room = limit;
+    }
 
 -- the matrix has no links and every spare
 abbrev pub Fresh : ℕ → ℕ → BitMatrix → Type 0
@@ -120,12 +125,18 @@ Making (Some reason) n limit before m = Fresh 0 0 m × (m.words.now ≡ before)
 
 -- the book with this tally and these words
 abbrev pub rewritten : BitMatrix → Tally → List ℕ → BitMatrix
-rewritten m tally words = record { size = m.size; tally = tally; words = record { ref_ptr = m.words.ref_ptr; ghost_name = m.words.ghost_name; now = words } }
+rewritten m tally words =
+    record {
+      size = m.size;
+      tally = tally;
+      words = record { ref_ptr = m.words.ref_ptr; ghost_name = m.words.ghost_name; now = words };
+    }
 
 -- every bit of the memory: those that pass the test are `on`, and the others as they were
 pub record Written (on : Bool) (test : ℕ → ℕ → Bool) (before after : List ℕ) : Type 0 where
   pub same_length : length after ≡ length before
-  pub bits : (k j : ℕ) → bit (slice_index after k) j ≡ cond (test k j) on (bit (slice_index before k) j)
+  pub bits : (k j : ℕ) →
+      bit (slice_index after k) j ≡ cond (test k j) on (bit (slice_index before k) j)
 
 -- a and b are two loads, and word k is there
 abbrev pub held : BitMatrix → ℕ → ℕ → ℕ → Bool

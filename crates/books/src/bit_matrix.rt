@@ -12,10 +12,11 @@ use links::{
     check_size,
 };
 
-/// A book of links in words that the caller lends, a bit for each ordered pair of loads: with w
-/// words to a row, size / 64 rounded up, load b is bit b mod 64 of word a × w + b / 64. A link is
-/// there in both directions, and the bits of no load are 0. A load may be linked to every other,
-/// and no pair is barred. A made matrix never refuses because a load is full (9).
+/// A book of links in words that the caller lends, a bit for each ordered pair of loads. Each load
+/// has a row of w words, size / 64 rounded up: row a begins at word a × w, and has a 1 for b in its
+/// word b / 64, at bit b mod 64, where the two are linked. A link is there in both directions, and
+/// the bits of no load are 0. A load may be linked to every other, and no pair is barred. A made
+/// matrix never refuses because a load is full (9).
 #[derive(Drop)]
 pub struct BitMatrix<'a> {
     // narrow, so that no index of a word overflows

@@ -65,8 +65,8 @@ fn row_layout(rt: HostRuntime) {
     assert_eq!(rt; numbers, [2, 1, 3, 1, 0, 0, 0, 0, 0, 1, 0, 0, 9, 9]);
 }
 
-// Every pattern that bars one pair of classes, against a plain table: bit j of byte i, or bit i of
-// byte j.
+// Every pattern that bars one pair of classes, against a plain table: byte i has bit j set, or byte
+// j has bit i.
 #[test]
 fn barred_classes(rt: HostRuntime) {
     for i in 0..8 {

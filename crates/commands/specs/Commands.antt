@@ -69,7 +69,8 @@ followed place command = record { command = command; next = place + length (byte
 
 -- what is read at a place: no command at or past the end
 abbrev pub read_at : List ℕ → ℕ → Option Decoded
-read_at stream place = cond (nat_le (length stream) place) None (Some (followed place (decoded (drop place stream))))
+read_at stream place =
+    cond (nat_le (length stream) place) None (Some (followed place (decoded (drop place stream))))
 
 -- how a reader answers
 abbrev pub Reads : List ℕ → ℕ → Result (Option Decoded) Refused → Type 0
@@ -90,5 +91,6 @@ Spanned stream place (Err e) = Unit {0}
 abbrev pub ReadsBack : Command → List ℕ → Result ℕ Refused → Type 0
 ReadsBack command out (Ok n) =
     (before : List ℕ) → length (before ++ out) ≤ 65536
-    → Reads (before ++ out) (length before) (Ok (Some (record { command = command; next = length before + n })))
+    → Reads (before ++ out) (length before)
+    (Ok (Some (record { command = command; next = length before + n })))
 ReadsBack command out (Err e) = Unit {0}

@@ -92,7 +92,8 @@ fn load(high: u8, low: u8) -> u16
 
 // The command that bytes begin with.
 fn decode(rest: &[u8]) -> Result<Command, Refused>
-    ensures { Answers (decoding rest.now) result (λ c. (c ≡ decoded rest.now) × (take (length (bytes c)) rest.now ≡ bytes c)) }
+    ensures { Answers (decoding rest.now) result
+        (λ c. (c ≡ decoded rest.now) × (take (length (bytes c)) rest.now ≡ bytes c)) }
 {
     match rest {
         [1, a, b, c, d, ..] => Ok(Command::Link(load(*a, *b), load(*c, *d))),

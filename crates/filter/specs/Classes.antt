@@ -14,7 +14,7 @@ use Rattle.filter.specs.declared.ClassFilter.{ClassFilter}
 abbrev pub class_of : List ℕ → ℕ → ℕ
 class_of classes a = cond (nat_lt a 256) (min (slice_index classes a) 7) 0
 
--- bit j of byte i or bit i of byte j bars the classes i and j
+-- classes i and j are barred where byte i has bit j set, or byte j has bit i set
 unfoldable pub bars_classes : List ℕ → ℕ → ℕ → Bool
 bars_classes bars i j = bit (slice_index bars i) j || bit (slice_index bars j) i
 
@@ -29,7 +29,12 @@ filtered hid g = record { size = g.size; linked = λ a b. g.linked a b && not (h
 -- of the loads below n, those whose links are hidden are barred too
 abbrev pub filtered_ledger : (ℕ → ℕ → Bool) → ℕ → Ledger → Ledger
 filtered_ledger hid n l =
-    record { limit = l.limit; barred = λ a b. l.barred a b || (nat_lt a n && (nat_lt b n && hid a b)); spare = l.spare; room = l.room }
+    record {
+      limit = l.limit;
+      barred = λ a b. l.barred a b || (nat_lt a n && (nat_lt b n && hid a b));
+      spare = l.spare;
+      room = l.room;
+    }
 
 -- ---- the meaning of a filter, from that of the book below
 
@@ -40,7 +45,8 @@ abbrev pub FilterMade : {B : Type 0} → (B → Type 0) → ClassFilter B → Ty
 FilterMade made f = made f.below
 
 abbrev pub filter_ledger : {B : Type 0} → (B → Graph) → (B → Ledger) → ClassFilter B → Ledger
-filter_ledger graph ledger f = filtered_ledger (hidden f.classes f.bars) (graph f.below).size (ledger f.below)
+filter_ledger graph ledger f =
+    filtered_ledger (hidden f.classes f.bars) (graph f.below).size (ledger f.below)
 
 -- what no call changes: classes, bars, and what the book below never changes
 pub record FilterFixed (F : Type 0) : Type 0 where
@@ -55,7 +61,9 @@ filter_fixed fixed f = record { classes = f.classes; bars = f.bars; below = fixe
 
 -- the first reason to refuse a change of the link of a and b before the book below is asked
 abbrev pub unless_visible : (ℕ → ℕ → Bool) → ℕ → ℕ → ℕ → Refusal → Option Reason
-unless_visible hid n a b refusal = unless_two_of Book n a b (cond (hid a b) (Some (told (record { refusal = refusal; layer = Book }))) None)
+unless_visible hid n a b refusal =
+    unless_two_of Book n a b
+    (cond (hid a b) (Some (told (record { refusal = refusal; layer = Book }))) None)
 
 module _
     {B : Type 0} (graph : B → Graph) (made : B → Type 0) (ledger : B → Ledger)

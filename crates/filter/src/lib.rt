@@ -21,7 +21,7 @@ pub struct ClassFilter<B> {
     below: B,
     // the class of each load, where one above 7 counts as 7
     classes: [u8; 256],
-    // classes i and j are barred by bit j of byte i or bit i of byte j
+    // classes i and j are barred where byte i has bit j set, or byte j has bit i set
     bars: [u8; 8],
 }
 
@@ -56,8 +56,8 @@ impl<B> ClassFilter<B> {
 }
 
 impl<B> ClassFilter<B> {
-    /// Lets the filter go and gives the book below back, with the links that it has now, hidden ones
-    /// among them.
+    /// Lets the filter go and gives the book below back, with the links that it has now, hidden
+    /// ones among them.
     pub fn into_below(self) -> B
         ensures { result ≡ self.below }
     {

@@ -2,7 +2,7 @@
 use Rattle.std.specs.Prelude.{◌≡◌, ℕ, zero, suc, ◌+◌, ◌<◌, ◌≤◌, Bool, true, false, cond, not, ◌&&◌}
 use Rattle.std.specs.Prelude.{◌||◌, Option, MatchOption, ◌==◌}
 
--- a set of links among the loads below `size`
+-- which loads below `size` are linked
 pub record Graph : Type 0 where
   pub size : ℕ
   pub linked : ℕ → ℕ → Bool

@@ -9,7 +9,8 @@ Maximal g p = (a b : ℕ) → Free p a → Free p b → g.linked a b ≢ true
 
 -- every walk from a over a pair to a free load comes back to a
 abbrev pub NoWalkFrom : Graph → Partners → ℕ → Type 0
-NoWalkFrom g p a = (x y z : ℕ) → g.linked a x ≡ true → p x ≡ Some y → g.linked y z ≡ true → Free p z → z ≡ a
+NoWalkFrom g p a =
+    (x y z : ℕ) → g.linked a x ≡ true → p x ≡ Some y → g.linked y z ≡ true → Free p z → z ≡ a
 
 abbrev pub NoWalk : Graph → Partners → Type 0
 NoWalk g p = (a : ℕ) → Free p a → NoWalkFrom g p a

@@ -18,7 +18,9 @@ joins e x y = is_pair e.a e.b x y
 
 -- the load at or above `from` that the entry links to x
 abbrev pub next_joined : Entry → ℕ → ℕ → Option ℕ
-next_joined e x from = cond (e.a == x && nat_le from e.b) (Some e.b) (cond (e.b == x && nat_le from e.a) (Some e.a) None)
+next_joined e x from =
+    cond (e.a == x && nat_le from e.b) (Some e.b)
+    (cond (e.b == x && nat_le from e.a) (Some e.a) None)
 
 -- the entry is a link of x
 abbrev pub touches : Entry → ℕ → Bool
@@ -30,7 +32,7 @@ entry_at es k = slice_index_or es k (record { a = 0; b = 0 })
 abbrev pub out_of_bounds : ℕ → List Entry → ℕ → Bool
 out_of_bounds n es k = not (in_bounds n (entry_at es k))
 
--- entry k does not come after the one before it
+-- entry k is not the first, and is not above the entry in front of it
 abbrev pub unordered : List Entry → ℕ → Bool
 unordered es k = nat_lt 0 k && not (entry_before (entry_at es (k - 1)) (entry_at es k))
 

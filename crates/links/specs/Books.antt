@@ -91,17 +91,22 @@ abbrev pub removing : Graph → ℕ → ℕ → Option Reason
 removing g a b = unless_two_of Book g.size a b (cond (g.linked a b) None (by_book 7))
 
 -- the value t stands for this graph and this ledger, and came from its making
-pub record Stands {S : Type 0} (graph : S → Graph) (made : S → Type 0) (ledger : S → Ledger) (t : S) (g : Graph) (l : Ledger) : Type 0 where
+pub record Stands {S : Type 0} (graph : S → Graph) (made : S → Type 0) (ledger : S → Ledger)
+    (t : S) (g : Graph) (l : Ledger) : Type 0 where
   pub graph_is : graph t ≡ g
   pub ledger_is : ledger t ≡ l
   pub still_made : made t
 
 -- how a value s of a type S answers r to a call that adds the link of a and b, and is t after it
-pub record Adds {S : Type 0} (graph : S → Graph) (made : S → Type 0) (ledger : S → Ledger) (s : S) (a b : ℕ) (r : Result Unit Refused) (t : S) : Type 0 where
+pub record Adds {S : Type 0} (graph : S → Graph) (made : S → Type 0) (ledger : S → Ledger)
+    (s : S) (a b : ℕ) (r : Result Unit Refused) (t : S) : Type 0 where
   pub kept : Kept r s t
-  pub answers : made s → Answers (adding (graph s) (ledger s) a b) r (λ _. Stands graph made ledger t (added (graph s) a b) (lowered (ledger s) a b))
+  pub answers : made s → Answers (adding (graph s) (ledger s) a b) r
+      (λ _. Stands graph made ledger t (added (graph s) a b) (lowered (ledger s) a b))
 
 -- the same of a call that removes it
-pub record Removes {S : Type 0} (graph : S → Graph) (made : S → Type 0) (ledger : S → Ledger) (s : S) (a b : ℕ) (r : Result Unit Refused) (t : S) : Type 0 where
+pub record Removes {S : Type 0} (graph : S → Graph) (made : S → Type 0) (ledger : S → Ledger)
+    (s : S) (a b : ℕ) (r : Result Unit Refused) (t : S) : Type 0 where
   pub kept : Kept r s t
-  pub answers : made s → Answers (removing (graph s) a b) r (λ _. Stands graph made ledger t (removed (graph s) a b) (raised (ledger s) a b))
+  pub answers : made s → Answers (removing (graph s) a b) r
+      (λ _. Stands graph made ledger t (removed (graph s) a b) (raised (ledger s) a b))

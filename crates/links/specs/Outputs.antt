@@ -13,4 +13,5 @@ unless_fits written out = cond (nat_lt (length out) (length written)) (by Stream
 -- else stays as it was
 pub record Writes (written before : List ℕ) (r : Result ℕ Refused) (after : List ℕ) : Type 0 where
   pub kept : Kept r before after
-  pub answers : Answers (unless_fits written before) r (λ n. (n ≡ length written) × (after ≡ written ++ drop n before))
+  pub answers : Answers (unless_fits written before) r
+      (λ n. (n ≡ length written) × (after ≡ written ++ drop n before))

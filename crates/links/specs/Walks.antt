@@ -6,7 +6,8 @@ use Rattle.links.specs.declared.walk.LinkedTo.{LinkedTo}
 
 -- the smallest number at or above `from` and below `end` that passes the test, if there is one
 abbrev pub NextBelow : (ℕ → Bool) → ℕ → ℕ → Option ℕ → Type 0
-NextBelow test from end r = MatchOption r ((j : ℕ) → from ≤ j → j < end → test j ≡ false) (λ k. First test from k)
+NextBelow test from end r =
+    MatchOption r ((j : ℕ) → from ≤ j → j < end → test j ≡ false) (λ k. First test from k)
 
 -- where a walk goes on, once it gave r
 abbrev pub past : ℕ → Option ℕ → ℕ
@@ -14,7 +15,8 @@ past from None = from
 past from (Some x) = x + 1
 
 -- a step of a walk s answers r and leaves the walk t
-pub record Walks {S : Type 0} (reliable : S → Type 0) (member : S → ℕ → Bool) (s : Walk S) (r : Option ℕ) (t : Walk S) : Type 0 where
+pub record Walks {S : Type 0} (reliable : S → Type 0) (member : S → ℕ → Bool)
+    (s : Walk S) (r : Option ℕ) (t : Walk S) : Type 0 where
   pub after : t ≡ record { set = s.set; from = past s.from r; end = s.end }
   pub within : MatchOption r (Unit {0}) (λ x. (s.from ≤ x) × (x < s.end))
   pub next : reliable s.set → NextBelow (member s.set) s.from s.end r

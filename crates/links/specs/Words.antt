@@ -35,4 +35,5 @@ reason_text number = slice_index_or texts (number - 1) []
 
 abbrev pub refused_text : Refused → List ℕ
 refused_text r =
-    codes "refused by the " ++ layer_name r.layer ++ codes " with " ++ decimal (meaning r.refusal).0 ++ codes ", " ++ reason_text (meaning r.refusal).0
+    codes "refused by the " ++ layer_name r.layer ++ codes " with "
+    ++ decimal (meaning r.refusal).0 ++ codes ", " ++ reason_text (meaning r.refusal).0

@@ -1,7 +1,7 @@
 -- Strict total orders of the loads.
 use Rattle.std.specs.Prelude.{◌≡◌, ℕ, Bool, true, false, not, ◌&&◌, ◌||◌, ◌==◌, ◌≢◌, nat_lt}
 
--- of two different numbers exactly one comes first, and the order is transitive
+-- two different numbers come one before the other and never both ways, and the order is transitive
 pub record StrictOrder (before : ℕ → ℕ → Bool) : Type 0 where
   pub irreflexive : (x : ℕ) → before x x ≡ false
   pub one_first : (x y : ℕ) → (x ≢ y) → before y x ≡ not (before x y)

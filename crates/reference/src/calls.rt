@@ -80,7 +80,8 @@ fn load_at(stream: &[u8], place: usize) -> u16 {
 // The call at a place of a stream; none at or past its end.
 pub fn read(stream: &[u8], place: usize) -> Result<Option<CallAt>, Refused>
     ensures short { OnOk result (length stream.now ≤ 65536) }
-    ensures onward { IfOk result (λ found. IfSome found (λ at. (place < at.next) × (at.next ≤ length stream.now))) }
+    ensures onward { IfOk result
+        (λ found. IfSome found (λ at. (place < at.next) × (at.next ≤ length stream.now))) }
 {
     if stream.len() > 65536 {
         return Err(Refusal::WrongLength.by(Layer::Stream));

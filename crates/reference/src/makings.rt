@@ -23,7 +23,8 @@ pub fn matrix(size: usize, limit: usize, words: usize) -> Answer
 
 // A row for each load: a count, and as many loads as the row limit says.
 pub fn rows(size: usize, row_limit: usize, limit: usize, numbers: usize) -> Answer
-    ensures { OnOk result (IsWithin 1 256 size × IsWithin 1 255 row_limit × IsWithin 1 32640 limit) }
+    ensures { OnOk result
+        (IsWithin 1 256 size × IsWithin 1 255 row_limit × IsWithin 1 32640 limit) }
 {
     let refusal = if size < 1 || size > 256 {
         Refusal::SizeOutOfRange

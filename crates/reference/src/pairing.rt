@@ -176,7 +176,8 @@ impl Pairing {
 
     // The smallest free load at or above `from` that a load is linked to.
     pub fn next_free_link(&self, a: usize, from: usize) -> Result<Option<usize>, Refused>
-        ensures { IfOk result (λ found. IfSome found (λ b. (from ≤ b) × (b < vec_len self.now.book.spares))) }
+        ensures { IfOk result
+            (λ found. IfSome found (λ b. (from ≤ b) × (b < vec_len self.now.book.spares))) }
     {
         self.check_load(a)?;
         Ok((from..self.book.size()).find(|&b| self.is_free_link(a, b)))

@@ -51,7 +51,8 @@ impl PlainBook {
         spare: usize,
         limit: usize,
     ) -> Result<PlainBook, AllocError>
-        ensures { IfOk result (λ book. (vec_len book.spares ≡ size) × (book.limit ≡ limit) × (book.room ≡ limit)) }
+        ensures { IfOk result
+            (λ book. (vec_len book.spares ≡ size) × (book.limit ≡ limit) × (book.room ≡ limit)) }
     {
         Ok(PlainBook {
             limit,
@@ -73,9 +74,8 @@ impl PlainBook {
         Ok(())
     }
 
-    // Bars the pairs of which bit j of byte i or bit i of byte j is 1, where i and j are the
-    // classes of the two loads. A class above 7 counts as 7, and a load that is given none has
-    // class 0.
+    // Bars the pairs whose classes i and j are barred: byte i has bit j set, or byte j has bit i
+    // set. A class above 7 stands for 7; a load that is given none has class 0.
     pub fn bar_classes(&mut self, classes: &[u8], bars: [u8; 8]) -> Result<(), AllocError>
         ensures size { vec_len self.new.spares ≡ vec_len self.old.spares }
         ensures limit { self.new.limit ≡ self.old.limit }
@@ -147,7 +147,8 @@ impl PlainBook {
 
     // Whether a and b are two loads of the book, as a layer tells it.
     pub fn check_two(&self, a: usize, b: usize, layer: Layer) -> Answer
-        ensures granted { OnOk result ((a < vec_len self.now.spares) × (b < vec_len self.now.spares) × (a ≢ b)) }
+        ensures granted { OnOk result
+            ((a < vec_len self.now.spares) × (b < vec_len self.now.spares) × (a ≢ b)) }
         ensures layer { IfErr result (λ refused. refused.layer ≡ layer) }
     {
         if a.max(b) >= self.size() {
@@ -180,7 +181,8 @@ impl PlainBook {
     // Adds the link of a and b, unless it is refused.
     pub fn add(&mut self, a: usize, b: usize) -> Result<Answer, AllocError>
         ensures refused { IfOk result (λ answer. OnErr answer (self.new ≡ self.old)) }
-        ensures layer { IfOk result (λ answer. IfErr answer (λ refused. refused.layer ≡ Layer.Book)) }
+        ensures layer { IfOk result
+            (λ answer. IfErr answer (λ refused. refused.layer ≡ Layer.Book)) }
     {
         let answer = self.check_add(a, b);
         if answer.is_ok() {

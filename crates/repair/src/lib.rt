@@ -16,9 +16,9 @@ mod best;
 mod changes;
 mod paths;
 
-/// What a repair goes by: the links, the ranking by which loads choose, and the link limit, by which
-/// the threshold is the most links that a free load may keep: the least whole number whose square is
-/// at least twice the limit.
+/// What a repair goes by: the links, the ranking by which loads choose, and the link limit, by
+/// which the threshold is the most links that a free load may keep: the least whole number whose
+/// square is at least twice the limit.
 ///
 /// The tables are lent to each call. They are to agree with the graph of the links and to hold a
 /// matching of it; then they do so afterwards, with the partners that the rules of repair give.

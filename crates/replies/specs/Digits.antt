@@ -6,7 +6,8 @@ use Rattle.std.specs.Str.Parse.{AllDigits, digits_value}
 -- the last k decimal digits of a number, or all that it has
 abbrev pub digits_in : ℕ → ℕ → List ℕ
 digits_in zero n = []
-digits_in (suc k) n = cond (nat_lt n 10) ((48 + n) ∷ []) (digits_in k (n / 10) ++ ((48 + n % 10) ∷ []))
+digits_in (suc k) n =
+    cond (nat_lt n 10) ((48 + n) ∷ []) (digits_in k (n / 10) ++ ((48 + n % 10) ∷ []))
 
 -- the decimal digits of a number: no number has more than itself and one
 unfoldable pub digits : ℕ → List ℕ

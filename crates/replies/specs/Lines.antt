@@ -9,7 +9,8 @@ use Rattle.replies.specs.Digits.{digits, two_digits}
 -- a reason to refuse, with the place of the command byte
 abbrev pub refusal_words : Reason → ℕ → List ℕ
 refusal_words reason place =
-    codes "no " ++ two_digits reason.number ++ codes " " ++ layer_name reason.layer ++ codes " " ++ digits place
+    codes "no " ++ two_digits reason.number ++ codes " " ++ layer_name reason.layer
+    ++ codes " " ++ digits place
 
 -- a reply without its line feed
 abbrev pub words : Reply → List ℕ

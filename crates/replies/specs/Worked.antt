@@ -10,9 +10,13 @@ pub record WorkedLines : Type 0 where
   pub alone : line Alone ≡ codes "alone\n"
   pub with_zero : line (With 0) ≡ codes "with 0\n"
   pub with_last : line (With 255) ≡ codes "with 255\n"
-  pub same_load : line (No (record { refusal = SameLoad; layer = Board }) 18) ≡ codes "no 05 board 18\n"
-  pub load_full : line (No (record { refusal = LoadFull; layer = Book }) 100) ≡ codes "no 09 book 100\n"
-  pub longest : line (No (record { refusal = UnknownCommand; layer = Stream }) 65535) ≡ codes "no 12 stream 65535\n"
-  pub longest_has : length (line (No (record { refusal = UnknownCommand; layer = Stream }) 65535)) ≡ 19
+  pub same_load : line (No (record { refusal = SameLoad; layer = Board }) 18)
+      ≡ codes "no 05 board 18\n"
+  pub load_full : line (No (record { refusal = LoadFull; layer = Book }) 100)
+      ≡ codes "no 09 book 100\n"
+  pub longest : line (No (record { refusal = UnknownCommand; layer = Stream }) 65535)
+      ≡ codes "no 12 stream 65535\n"
+  pub longest_has :
+      length (line (No (record { refusal = UnknownCommand; layer = Stream }) 65535)) ≡ 19
   pub pair : pair_line 0 1 ≡ codes "0 1\n"
   pub longest_pair : length (pair_line 254 255) ≡ 8

@@ -18,7 +18,8 @@ fn first_break<T: Ord>(records: &[T]) -> Option<usize>
 
 /// The first index whose record does not come after the record before it.
 pub fn first_unordered<T: Ord>(records: &[T]) -> Option<usize>
-    ensures first { MatchOption result (Rises (comes_before T.cmp) records.now) (λ i. FirstUnordered (comes_before T.cmp) records.now i) }
+    ensures first { MatchOption result (Rises (comes_before T.cmp) records.now)
+        (λ i. FirstUnordered (comes_before T.cmp) records.now i) }
     ensures ordered { StrictTotal (Tied T.cmp) (comes_before T.cmp) }
 {
     first_break(records).map(|k| k + 1)

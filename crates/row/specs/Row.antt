@@ -27,7 +27,8 @@ Insertable row b = slice_index row 0 + 1 < length row
 
 abbrev pub row_with : List ℕ → ℕ → List ℕ
 row_with row b =
-    (slice_index row 0 + 1) ∷ (insert (entries row) (place (entries row) b) b ++ drop (slice_index row 0 + 2) row)
+    (slice_index row 0 + 1)
+    ∷ (insert (entries row) (place (entries row) b) b ++ drop (slice_index row 0 + 2) row)
 
 -- there is a load not below b that can be taken out, with what the row is then
 abbrev pub Removable : List ℕ → ℕ → Type 0
@@ -35,7 +36,8 @@ Removable row b = (slice_index row 0 < length row) × (place (entries row) b < s
 
 abbrev pub row_without : List ℕ → ℕ → List ℕ
 row_without row b =
-    (slice_index row 0 - 1) ∷ (remove (entries row) (place (entries row) b) ++ 0 ∷ drop (slice_index row 0 + 1) row)
+    (slice_index row 0 - 1)
+    ∷ (remove (entries row) (place (entries row) b) ++ 0 ∷ drop (slice_index row 0 + 1) row)
 
 -- what a change asks of a row, and what it makes of it
 abbrev pub Able : Change → List ℕ → ℕ → Type 0

@@ -12,7 +12,8 @@ use Rattle.row.specs.Memory.{row_of, loads_of_row, both_changed}
 use Rattle.rows.specs.declared.SortedRows.{SortedRows}
 
 abbrev pub graph_of : ℕ → ℕ → List ℕ → Graph
-graph_of n d memory = record { size = n; linked = λ a b. nat_lt b n && has (loads_of_row n d memory a) b }
+graph_of n d memory =
+    record { size = n; linked = λ a b. nat_lt b n && has (loads_of_row n d memory a) b }
 
 abbrev pub ledger_of : ℕ → ℕ → ℕ → ℕ → List ℕ → Ledger
 ledger_of n d limit count memory =
@@ -81,7 +82,12 @@ checking n d limit memory =
 
 abbrev pub fresh : ℕ → ℕ → ℕ → Ledger
 fresh n d limit =
-    record { limit = limit; barred = λ _ _. false; spare = λ a. cond (nat_lt a n) d 0; room = limit }
+    record {
+      limit = limit;
+      barred = λ _ _. false;
+      spare = λ a. cond (nat_lt a n) d 0;
+      room = limit;
+    }
 
 -- a book without links
 pub record Fresh (n d limit : ℕ) (s : SortedRows) : Type 0 where

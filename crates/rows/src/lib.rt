@@ -86,8 +86,8 @@ impl SortedRows<'_> {
         row_loads(self.rows, self.size, self.row_limit, a)
     }
 
-    /// The index, among the loads of row a, of the first that does not come after the one before
-    /// it; `None` where they rise, as in each made book. Reads the loads of the row up to it.
+    /// The index, among the loads of row a, of the first that is not above the load in front of it;
+    /// `None` where they rise, as in each made book. Reads the loads of the row up to it.
     pub fn row_break(&self, a: usize) -> Option<usize>
         ensures first { MatchOption result (Rises nat_lt (book_row self.now a))
             (λ i. FirstUnordered nat_lt (book_row self.now a) i) }

@@ -16,7 +16,7 @@ use Rattle.rules.specs.Threshold.{threshold}
 abbrev pub Unhealthy : Graph → ℕ → Partners → Type 0
 Unhealthy g limit p = Healthy g (threshold limit) p → ⊥
 
--- ---- one end of a parted pair fully before the other
+-- ---- both phases at one end of a parted pair, and then at the other
 
 abbrev pub repaired_in_turn : ℕ → Graph → List ℕ → Partners → Partners
 repaired_in_turn t g = each (λ a p. improve by_number t g a (match_free by_number g a p))

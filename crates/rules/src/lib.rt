@@ -99,7 +99,8 @@ pub fn refusals_told()
     ensures { Refusals }
 {}
 
-/// Repairing one end of a parted pair fully before the other leaves a path of three links.
+/// Carrying out both phases at one end of a parted pair, and only then at the other, leaves a path
+/// of three links.
 pub fn ends_in_turn_fail()
     ensures { InTurn }
 {}

@@ -18,7 +18,7 @@ pub struct Record {
     free_links: u16,
 }
 
-/// A set of loads below 256, of four words: load `b` is bit `b mod 64` of word `b / 64`.
+/// A set of loads below 256, in four words: word `b / 64` has the bit of load `b`, at `b mod 64`.
 #[derive(Clone, Copy)]
 pub struct LoadSet {
     words: [u64; 4],

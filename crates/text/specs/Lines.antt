@@ -27,7 +27,8 @@ with_load (Some a) of = of a
 abbrev pub command_of : List ℕ → List ℕ → Option Command
 command_of kind rest =
     with_load (number (word 0 rest)) (λ a. cond (empty (word 1 rest)) (command_of_one kind a)
-    (with_load (number (word 1 rest)) (λ b. cond (empty (word 2 rest)) (command_of_two kind a b) None)))
+    (with_load (number (word 1 rest)) (λ b. cond (empty (word 2 rest)) (command_of_two kind a b)
+    None)))
 
 -- no word, or a first word that begins with '#'
 abbrev pub comment : List ℕ → Bool
@@ -41,7 +42,8 @@ required (Some c) = Ok (Some c)
 abbrev pub meaning : List ℕ → Result (Option Command) BadLine
 meaning line =
     let text = line_without_return line in
-    cond (comment (word 0 text)) (Ok None) (required (command_of (word 0 text) (past 32 (unspaced text))))
+    cond (comment (word 0 text)) (Ok None)
+    (required (command_of (word 0 text) (past 32 (unspaced text))))
 
 -- a line without a line feed that means this command
 pub record Means (line : List ℕ) (c : Command) : Type 0 where

@@ -65,7 +65,8 @@ pub record StandsFor (text stream : List ℕ) : Type 0 where
 
 -- a line, with its number counted from 1, was put at the end of a stream
 abbrev pub Appends : List ℕ → ℕ → List ℕ → Result (Unit {0}) BadText → List ℕ → Type 0
-Appends line number before (Ok done) after = (is_ok (meaning line) ≡ true) × (after ≡ before ++ line_bytes line)
+Appends line number before (Ok done) after =
+    (is_ok (meaning line) ≡ true) × (after ≡ before ++ line_bytes line)
 Appends line number before (Err (Line n)) after = (n ≡ number) × (is_ok (meaning line) ≡ false)
 Appends line number before (Err TooLong) after = ⊥
 Appends line number before (Err NoMemory) after = Unit {0}
@@ -106,5 +107,7 @@ Decodes stream (Err bad_stream.NoMemory) = Unit {0}
 
 -- how it is told that a stream gives no text
 abbrev pub bad_stream_told : BadStream → List ℕ
-bad_stream_told (At refused place) = codes "byte " ++ (decimal place ++ (codes ": refused with " ++ decimal (told refused).number))
+bad_stream_told (At refused place) =
+    codes "byte "
+    ++ (decimal place ++ (codes ": refused with " ++ decimal (told refused).number))
 bad_stream_told bad_stream.NoMemory = codes "no memory is left"

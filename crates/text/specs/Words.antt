@@ -6,7 +6,8 @@ use Rattle.std.specs.Str.{all_ascii_digits}
 
 -- without a carriage return at its end
 abbrev pub line_without_return : List ℕ → List ℕ
-line_without_return line = cond (slice_index line (length line - 1) == 13) (take (length line - 1) line) line
+line_without_return line =
+    cond (slice_index line (length line - 1) == 13) (take (length line - 1) line) line
 
 -- without the spaces that it begins with
 abbrev pub unspaced : List ℕ → List ℕ
@@ -33,4 +34,7 @@ empty bytes = length bytes == 0
 
 -- the load that a word of decimal digits names
 abbrev pub number : List ℕ → Option ℕ
-number digits = cond (nat_lt 0 (length digits) && (all_ascii_digits digits && nat_le (digits_value 10 digits) 65535)) (Some (digits_value 10 digits)) None
+number digits =
+    cond
+    (nat_lt 0 (length digits) && (all_ascii_digits digits && nat_le (digits_value 10 digits) 65535))
+    (Some (digits_value 10 digits)) None

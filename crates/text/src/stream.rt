@@ -115,7 +115,8 @@ pub fn encode(heap: Global, text: &[u8]) -> Result<Vec<u8>, BadText>
 
 // Appends the line of a command and a line feed.
 fn push_full_line(text: &mut String, command: Command) -> Result<(), AllocError>
-    ensures line { OnOk result (string_bytes text.new ≡ string_bytes text.old ++ full_line command) }
+    ensures line { OnOk result
+        (string_bytes text.new ≡ string_bytes text.old ++ full_line command) }
     ensures reads_back { Means (line_of command) command }
 {
     writeln!(text, "{command}")
