@@ -1,5 +1,5 @@
-// Single bits of a word, and words in a row as a set of numbers. A place is taken modulo 64, as a
-// row of words has it: load b is bit b mod 64 of its word.
+//! Single bits of a word, and words in a row as a set of numbers. A place is taken modulo 64, as a
+//! row of words has it: load b is bit b mod 64 of its word.
 #![tactic(auto)]
 
 ghost use Rattle.std.specs.Prelude.{◌≡◌, ℕ, ◌%◌, ◌≤◌, ◌<◌, ◌*◌, ◌^◌, not, ◌&&◌, ◌||◌, ◌==◌};

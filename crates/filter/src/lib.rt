@@ -1,4 +1,4 @@
-// A link book seen through classes of loads.
+//! A link book seen through classes of loads.
 #![tactic(auto)]
 
 ghost use Rattle.std.specs.Prelude.{◌≡◌, ℕ, ◌<◌, ◌≤◌, false, OnOk, slice_index};
@@ -56,8 +56,8 @@ impl<B> ClassFilter<B> {
 }
 
 impl<B> ClassFilter<B> {
-    /// Lets the filter go and gives the book below back, with the links that it has now, hidden ones
-    /// among them.
+    /// Lets the filter go and gives the book below back, with the links that it has now, hidden
+    /// ones among them.
     pub fn into_below(self) -> B
         ensures { result ≡ self.below }
     {

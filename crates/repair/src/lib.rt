@@ -1,5 +1,5 @@
-// The repair of a matching at a list of loads, carried out on the tables of a board: first each
-// load of the list is matched with a free one, then each that is still free is improved.
+//! The repair of a matching at a list of loads, carried out on the tables of a board: first each
+//! load of the list is matched with a free one, then each that is still free is improved.
 #![tactic(auto)]
 
 ghost use Rattle.std.specs.Prelude.{◌≡◌};
@@ -16,9 +16,9 @@ mod best;
 mod changes;
 mod paths;
 
-/// What a repair goes by: the links, the ranking by which loads choose, and the link limit, by which
-/// the threshold is the most links that a free load may keep: the least whole number whose square is
-/// at least twice the limit.
+/// What a repair goes by: the links, the ranking by which loads choose, and the link limit, by
+/// which the threshold is the most links that a free load may keep: the least whole number whose
+/// square is at least twice the limit.
 ///
 /// The tables are lent to each call. They are to agree with the graph of the links and to hold a
 /// matching of it; then they do so afterwards, with the partners that the rules of repair give.
