@@ -1,5 +1,5 @@
-// The audit: whether claimed partners are a matching of the links, with no augmenting path of one
-// or three links.
+//! The audit: whether claimed partners are a matching of the links, with no augmenting path of one
+//! or three links.
 #![tactic(auto)]
 
 ghost use Rattle.std.specs.Prelude.{◌≡◌, length, Some};
@@ -20,14 +20,15 @@ use std::fmt;
 /// What an audit finds: the claims are sound, or the first fault.
 #[derive(Clone, Copy, PartialEq, Eq, Debug)]
 pub enum Verdict {
+    /// The claims are a matching of the links without augmenting paths of one or three links.
     Sound,
-    // this load claims a number that is no load, or a load that does not claim it in return
+    /// This load claims a number that is no load, or a load that does not claim it in return.
     NotReturned(usize),
-    // this load is not linked to the partner that it claims
+    /// This load is not linked to the partner that it claims.
     NotLinked(usize),
-    // an augmenting path of one link, by its two loads
+    /// An augmenting path of one link, by its two loads.
     PathOfOne((usize, usize)),
-    // an augmenting path of three links, by its four loads in order
+    /// An augmenting path of three links, by its four loads in order.
     PathOfThree((usize, usize, usize, usize)),
 }
 

@@ -1,5 +1,5 @@
-// Single bits of a word, and words in a row as a set of numbers. A place is taken modulo 64: number
-// b of a row is at bit b mod 64 of word b / 64.
+//! Single bits of a word, and words in a row as a set of numbers. A place is taken modulo 64:
+//! number b of a row is at bit b mod 64 of word b / 64.
 #![tactic(auto)]
 
 ghost use Rattle.std.specs.Prelude.{◌≡◌, ℕ, ◌%◌, ◌≤◌, ◌<◌, ◌*◌, ◌^◌, not, ◌&&◌, ◌||◌, ◌==◌};

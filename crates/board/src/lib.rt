@@ -1,4 +1,4 @@
-// A board: a book of links, a ranking, and the matching that is kept on them.
+//! A board: a book of links, a ranking, and the matching that is kept on them.
 #![tactic(auto)]
 
 ghost use Rattle.std.specs.Prelude.{◌≡◌, None};

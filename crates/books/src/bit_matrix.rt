@@ -1,4 +1,4 @@
-// A link book that holds a bit for each ordered pair of loads.
+//! A link book that holds a bit for each ordered pair of loads.
 ghost use Rattle.std.specs.Prelude.{◌≡◌, ◌≤◌, true, false, ◌&&◌, length, is_ok};
 ghost use Rattle.links.specs.Books.{Adds, Removes};
 ghost use Rattle.links.specs.Refusals.{Answers};

@@ -1,4 +1,4 @@
-// Books of links in memory that the caller lends.
+//! Books of links in memory that the caller lends.
 #![tactic(auto)]
 
 /// A book that holds a bit for each ordered pair of loads.

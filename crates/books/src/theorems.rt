@@ -1,5 +1,5 @@
-// What holds of every bit matrix that came from its making. The functions here do nothing: the
-// contract of each is a theorem.
+//! What holds of every bit matrix that came from its making. The functions here do nothing: the
+//! contract of each is a theorem.
 ghost use Rattle.books.specs.Theorems.{WordsOfGraph, MemoryFollows, NeverFull};
 
 /// Each bit of a matrix's words is that of its graph: with w words to a row, bit j of word a × w +

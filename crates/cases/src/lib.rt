@@ -1,4 +1,4 @@
-// Examples of what the crates below answer, proved safe and then run.
+//! Examples of what the crates below answer, proved safe and then run.
 #![tactic(auto)]
 
 #[cfg(test)]

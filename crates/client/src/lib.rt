@@ -1,4 +1,4 @@
-// What a caller can prove of books from their contracts alone.
+//! What a caller can prove of books from their contracts alone.
 #![tactic(auto)]
 
 ghost use Rattle.std.specs.Prelude.{◌≡◌, true, Ok};

@@ -1,4 +1,4 @@
-// What a caller can prove of link lists, and of audits over them, from the contracts alone.
+//! What a caller can prove of link lists, and of audits over them, from the contracts alone.
 ghost use Rattle.std.specs.Prelude.{◌≡◌, true, false, Some, None, Ok, [], ◌∷◌};
 ghost use Rattle.audit.specs.declared.Verdict.TheVariants.{Sound, PathOfThree};
 

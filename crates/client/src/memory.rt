@@ -1,5 +1,5 @@
-// Memory that a caller lends for a book, and has back with the book's links in it. The theorems are
-// called for what their contracts say, and do nothing.
+//! Memory that a caller lends for a book, and has back with the book's links in it. The theorems
+//! are called for what their contracts say, and do nothing.
 ghost use Rattle.std.specs.Prelude.{◌≡◌, [], ◌∷◌, ◌++◌, drop, length};
 ghost use Rattle.links.specs.Refusals.{Answers, Kept};
 ghost use Rattle.books.specs.Matrix.{checking};

@@ -1,5 +1,5 @@
-// The commands of a stream, as bytes: one for the kind of command, then two for each of its loads,
-// the high byte first; and as lines of text.
+//! The commands of a stream, as bytes: one for the kind of command, then two for each of its loads,
+//! the high byte first; and as lines of text.
 #![tactic(auto)]
 
 ghost use Rattle.std.specs.Prelude.{◌≡◌, ◌+◌, ◌*◌, ◌≤◌, length, take, None, Some};

@@ -1,4 +1,4 @@
-// A link book seen through classes of loads.
+//! A link book seen through classes of loads.
 #![tactic(auto)]
 
 ghost use Rattle.std.specs.Prelude.{◌≡◌, ℕ, ◌<◌, ◌≤◌, false, OnOk, slice_index};

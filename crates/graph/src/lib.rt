@@ -1,5 +1,6 @@
-// Graphs, matchings and augmenting paths: the definitions that the crates above cite. The functions
-// here do nothing: the contract of each is a theorem, which the check therefore asks to be proved.
+//! Graphs, matchings and augmenting paths: the definitions that the crates above cite. The
+//! functions here do nothing: the contract of each is a theorem, which the check therefore asks to
+//! be proved.
 #![tactic(auto)]
 
 ghost use Rattle.graph.specs.Approximation.{Handshake, PairsAtLower, ShortPathsOfMatchings};

@@ -1,4 +1,4 @@
-// Links for asking only, in a list of entries that the caller lends.
+//! Links for asking only, in a list of entries that the caller lends.
 #![tactic(auto)]
 
 ghost use Rattle.std.specs.Prelude.{◌≡◌, length};

@@ -1,5 +1,5 @@
-// What can be asked of links, what a book of links can change, the checks that every book makes,
-// the tally of a book, walks over linked loads, the refusals, and the writing of bytes.
+//! What can be asked of links, what a book of links can change, the checks that every book makes,
+//! the tally of a book, walks over linked loads, the refusals, and the writing of bytes.
 #![tactic(auto)]
 
 ghost use Rattle.std.specs.Prelude.{◌≡◌, None};
@@ -33,10 +33,10 @@ pub struct Allowance {
 /// Links between loads, which are the numbers below a size of at most 256. What the answers say
 /// holds of every value that came from its making; a call is safe and ends on any other too.
 pub trait Links {
-    // the set of links that the value stands for
+    /// The set of links that the value stands for.
     ghost graph: { Self → Graph };
 
-    // the value came from its making, and from there by its own calls
+    /// The value came from its making, and from there by its own calls.
     ghost made: { Self → Type 0 };
 
     /// The number of loads: 1 to 256, or 0 where the making was refused.
@@ -64,12 +64,14 @@ pub trait Links {
 
 /// Links that can be changed too, within a limit. A refused call leaves the book as it was.
 pub trait Book: Links {
+    /// The limit, the barred pairs, the spares and the room.
     ghost ledger: { Self → Ledger };
 
-    // what no call changes, on any value: of lent memory, whose it is, how long, and what lies past
-    // the need
+    /// The type of what no call changes.
     ghost Fixed: { Type 0 };
 
+    /// What no call changes, on any value: of lent memory whose it is, how long, and what lies past
+    /// the need.
     ghost fixed: { Self → Fixed };
 
     /// The most links that the book ever has: 1 to 32,640, or 0 where the making was refused.

@@ -1,4 +1,4 @@
-// Walks over numbers in rising order.
+//! Walks over numbers in rising order.
 ghost use Rattle.std.specs.Prelude.{◌≡◌, ℕ, ◌-◌, Bool};
 ghost use Rattle.std.specs.Iterator.{at_most};
 ghost use Rattle.graph.specs.Graph.{Next};
@@ -9,9 +9,10 @@ use crate::Links;
 /// A set of numbers of which the next at or above another can be asked for. What the answers say
 /// holds of every value that came from its making; a call is safe and ends on any other too.
 pub trait Rising {
+    /// The numbers that are in the set.
     ghost member: { Self → ℕ → Bool };
 
-    // the value came from its making
+    /// The value came from its making.
     ghost reliable: { Self → Type 0 };
 
     /// The smallest member at or above `from`; `None` where there is none.

@@ -1,5 +1,5 @@
-// Plays a stream of commands from standard input on a board, and prints the answer to each and then
-// the pairs.
+//! Plays a stream of commands from standard input on a board, and prints the answer to each and
+//! then the pairs.
 #![tactic(auto)]
 
 use commands::LONGEST_STREAM;

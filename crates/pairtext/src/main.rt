@@ -1,5 +1,5 @@
-// Turns lines of commands into the bytes of a stream, and with `--decode` the bytes of a stream
-// into lines.
+//! Turns lines of commands into the bytes of a stream, and with `--decode` the bytes of a stream
+//! into lines.
 #![tactic(auto)]
 
 use std::fmt::Display;

@@ -1,4 +1,4 @@
-// The ranking by the detour between two places.
+//! The ranking by the detour between two places.
 ghost use Rattle.std.specs.Prelude.{◌≡◌, ◌^◌, ◌<◌, ◌≤◌, true, pos, ◌-ℤ◌, unsigned_abs};
 ghost use Rattle.ranking.specs.Detour.{distance, place_of, detour, nearer, NearerFirst};
 
@@ -42,6 +42,7 @@ pub struct ByDetour<'a> {
 }
 
 impl<'a> ByDetour<'a> {
+    /// Ranks by the places in a lent slice, one for each load. A slice of any length will do.
     pub fn new(places: &'a [Place]) -> ByDetour<'a>
         ensures { result.places.now ≡ places.now }
     {

@@ -1,12 +1,12 @@
-// The calls that bytes stand for: one byte for the kind of call, then each load in two bytes, the
-// high one first.
+//! The calls that bytes stand for: one byte for the kind of call, then each load in two bytes, the
+//! high one first.
 ghost use Rattle.std.specs.Prelude.{◌≡◌, ◌<◌, ◌≤◌, length, IfSome, IfOk, OnOk, OnErr};
 
 use crate::pairing::Pairing;
 use links::{Layer, Refusal, Refused};
 use std::alloc::AllocError;
 
-// A call on a board, with its loads.
+/// A call on a board, with its loads.
 #[derive(Clone, Copy, PartialEq, Eq, Debug)]
 pub enum Call {
     Link(u16, u16),
@@ -16,7 +16,7 @@ pub enum Call {
     Partner(u16),
 }
 
-// A call, and the place after its bytes.
+/// A call, and the place after its bytes.
 #[derive(Clone, Copy, PartialEq, Eq, Debug)]
 pub struct CallAt {
     pub call: Call,
@@ -54,7 +54,7 @@ impl Call {
         }
     }
 
-    // Writes the bytes of the call at the start of an output, and answers how many they are.
+    /// Writes the bytes of the call at the start of an output, and answers how many they are.
     pub fn write(self, out: &mut [u8]) -> Result<usize, Refused>
         ensures within { IfOk result (λ n. n ≤ length out.old) }
         ensures refused { OnErr result (out.new ≡ out.old) }
@@ -77,7 +77,7 @@ fn load_at(stream: &[u8], place: usize) -> u16 {
     u16::from(high) * 256 + u16::from(low)
 }
 
-// The call at a place of a stream; none at or past its end.
+/// The call at a place of a stream; none at or past its end.
 pub fn read(stream: &[u8], place: usize) -> Result<Option<CallAt>, Refused>
     ensures short { OnOk result (length stream.now ≤ 65536) }
     ensures onward { IfOk result
@@ -106,10 +106,11 @@ pub fn read(stream: &[u8], place: usize) -> Result<Option<CallAt>, Refused>
     Ok(Some(CallAt { call, next }))
 }
 
-// What a call answers: the partner that was asked for, or a refusal.
+/// What a call answers: the partner that was asked for, or a refusal.
 pub type Answer = Result<Option<usize>, Refused>;
 
 impl Pairing {
+    /// Makes a call. An error where memory runs out.
     pub fn make(&mut self, call: Call) -> Result<Answer, AllocError>
         ensures { IfOk result (λ answer. OnErr answer (self.new ≡ self.old)) }
     {

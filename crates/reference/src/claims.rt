@@ -1,10 +1,10 @@
-// The first fault of claimed partners, by trying every load.
+//! The first fault of claimed partners, by trying every load.
 ghost use Rattle.std.specs.Prelude.{◌≡◌, length, vec_len, OnOk};
 
 use crate::plain_book::PlainBook;
 use links::{Layer, Refusal, Refused};
 
-// The claims are sound, or what their first fault is, with its loads.
+/// The claims are sound, or what their first fault is, with its loads.
 #[derive(Clone, Copy, PartialEq, Eq, Debug)]
 pub enum Finding {
     Sound,
@@ -85,7 +85,7 @@ impl Claims<'_> {
     }
 }
 
-// What is to be found in the claims of the loads of a book.
+/// What is to be found in the claims of the loads of a book.
 pub fn examine(book: &PlainBook, claims: &[u16]) -> Result<Finding, Refused>
     ensures { OnOk result (length claims.now ≡ vec_len book.now.spares) }
 {

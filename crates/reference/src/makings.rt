@@ -1,11 +1,11 @@
-// What the makings of books and of link lists refuse.
+//! What the makings of books and of link lists refuse.
 ghost use Rattle.std.specs.Prelude.{OnOk};
 ghost use Rattle.reference.specs.Ranges.{IsWithin};
 
 use crate::plain_book::Answer;
 use links::{Layer, Refusal};
 
-// A bit for each two loads, in whole words of 64 for each load.
+/// A bit for each two loads, in whole words of 64 for each load.
 pub fn matrix(size: usize, limit: usize, words: usize) -> Answer
     ensures { OnOk result (IsWithin 1 256 size × IsWithin 1 32640 limit) }
 {
@@ -21,7 +21,7 @@ pub fn matrix(size: usize, limit: usize, words: usize) -> Answer
     Err(refusal.by(Layer::Book))
 }
 
-// A row for each load: a count, and as many loads as the row limit says.
+/// A row for each load: a count, and as many loads as the row limit says.
 pub fn rows(size: usize, row_limit: usize, limit: usize, numbers: usize) -> Answer
     ensures { OnOk result
         (IsWithin 1 256 size × IsWithin 1 255 row_limit × IsWithin 1 32640 limit) }
@@ -38,7 +38,7 @@ pub fn rows(size: usize, row_limit: usize, limit: usize, numbers: usize) -> Answ
     Err(refusal.by(Layer::Book))
 }
 
-// Entries a, b with a < b below the size, each after the one before it.
+/// Entries a, b with a < b below the size, each after the one before it.
 pub fn list(size: usize, entries: &[(u16, u16)]) -> Answer
     ensures { OnOk result (IsWithin 1 256 size) }
 {

@@ -1,11 +1,11 @@
-// Which of two loads a load would rather be paired with.
+//! Which of two loads a load would rather be paired with.
 ghost use Rattle.std.specs.Prelude.{◌<◌, ◌≤◌};
 
-// By the lower number, or by the smaller detour and then the lower number.
+/// By the lower number, or by the smaller detour and then the lower number.
 #[derive(Drop)]
 pub enum Order {
     ByNumber,
-    // the place of each load; a load without one is at 0, 0
+    /// The place of each load; a load without one is at 0, 0.
     ByDetour(Vec<(i32, i32)>),
 }
 
@@ -17,7 +17,7 @@ fn apart(a: i32, b: i32) -> u64
 }
 
 impl Order {
-    // What a load looks at first in another: its detour, if the order goes by that.
+    /// What a load looks at first in another: its detour, if the order goes by that.
     pub fn detour(&self, a: usize, x: usize) -> u64
         ensures { result ≤ 8589934590 }
     {

@@ -1,4 +1,4 @@
-// Loads with the partners that the rules give them, and the calls that change their links.
+//! Loads with the partners that the rules give them, and the calls that change their links.
 ghost use Rattle.std.specs.Prelude.{◌≡◌, ℕ, ◌*◌, ◌<◌, ◌≤◌, vec_len, IfSome, IfOk, OnOk, OnErr};
 
 use crate::order::Order;
@@ -7,7 +7,7 @@ use crate::repairs::RepairCounts;
 use links::{Layer, Refusal, Refused};
 use std::alloc::{AllocError, Global};
 
-// A book, the order by which its loads choose, the partners, and what the repairs did so far.
+/// A book, the order by which its loads choose, the partners, and what the repairs did so far.
 #[derive(Drop)]
 pub struct Pairing {
     pub(crate) book: PlainBook,
@@ -18,7 +18,7 @@ pub struct Pairing {
     pub(crate) repairs: RepairCounts,
 }
 
-// The least whole number whose square is at least twice the limit.
+/// The least whole number whose square is at least twice the limit.
 pub fn threshold_of(limit: usize) -> usize
     ensures enough { limit ≤ 32640 → 2 * limit ≤ result * result }
     ensures least { (t : ℕ) → t < result → t * t < 2 * limit }
@@ -31,7 +31,7 @@ pub fn threshold_of(limit: usize) -> usize
 }
 
 impl Pairing {
-    // All loads are free at first, and all are repaired.
+    /// All loads are free at first, and all are repaired.
     pub fn open(alloc: Global, book: PlainBook, order: Order) -> Result<Pairing, AllocError>
         ensures { IfOk result (λ pairing. pairing.book ≡ book) }
     {
@@ -51,13 +51,14 @@ impl Pairing {
         Ok(pairing)
     }
 
+    /// The book, for asking.
     pub fn book(&self) -> &PlainBook
         ensures { result.now ≡ self.now.book }
     {
         &self.book
     }
 
-    // What the repairs did since the opening.
+    /// What the repairs did since the opening.
     pub fn repairs(&self) -> RepairCounts
         ensures { result ≡ self.now.repairs }
     {
@@ -107,6 +108,7 @@ impl Pairing {
         }
     }
 
+    /// Adds a link and repairs both loads. An error where memory runs out.
     pub fn link(&mut self, a: usize, b: usize) -> Result<Answer, AllocError>
         ensures { IfOk result (λ answer. OnErr answer (self.new ≡ self.old)) }
     {
@@ -120,6 +122,7 @@ impl Pairing {
         Ok(answer)
     }
 
+    /// Removes a link, parts the two if they are partners, and repairs both.
     pub fn unlink(&mut self, a: usize, b: usize) -> Answer
         ensures { OnErr result (self.new ≡ self.old) }
     {
@@ -132,6 +135,7 @@ impl Pairing {
         Ok(())
     }
 
+    /// Removes all links of a load, parts it, and repairs the load that was its partner.
     pub fn withdraw(&mut self, a: usize) -> Answer
         ensures { OnErr result (self.new ≡ self.old) }
     {
@@ -144,6 +148,7 @@ impl Pairing {
         Ok(())
     }
 
+    /// A load and its partner part, and lose all their links.
     pub fn depart(&mut self, a: usize) -> Answer
         ensures { OnErr result (self.new ≡ self.old) }
     {
@@ -157,7 +162,7 @@ impl Pairing {
         Ok(())
     }
 
-    // The partner of a load, if it has one.
+    /// The partner of a load, if it has one.
     pub fn partner(&self, a: usize) -> Result<Option<usize>, Refused>
         ensures { OnOk result (a < vec_len self.now.book.spares) }
     {
@@ -165,7 +170,7 @@ impl Pairing {
         Ok(self.partner_of(a))
     }
 
-    // The number of free loads that a load is linked to.
+    /// The number of free loads that a load is linked to.
     pub fn free_links(&self, a: usize) -> Result<usize, Refused>
         ensures { IfOk result (λ n. n ≤ vec_len self.now.book.spares) }
     {
@@ -174,7 +179,7 @@ impl Pairing {
         Ok(loads.filter(|&b| self.is_free_link(a, b)).count())
     }
 
-    // The smallest free load at or above `from` that a load is linked to.
+    /// The smallest free load at or above `from` that a load is linked to.
     pub fn next_free_link(&self, a: usize, from: usize) -> Result<Option<usize>, Refused>
         ensures { IfOk result
             (λ found. IfSome found (λ b. (from ≤ b) × (b < vec_len self.now.book.spares))) }
@@ -187,7 +192,7 @@ impl Pairing {
         self.book.linked(a, b) && self.is_free(b)
     }
 
-    // The number of pairs: each counts at its lower load.
+    /// The number of pairs: each counts at its lower load.
     pub fn pairs(&self) -> usize
         ensures { result ≤ vec_len self.now.book.spares }
     {

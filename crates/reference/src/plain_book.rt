@@ -1,11 +1,11 @@
-// A book of links as sets of pairs.
+//! A book of links as sets of pairs.
 ghost use Rattle.std.specs.Prelude.{◌≡◌, ◌≢◌, ◌<◌, ◌≤◌, vec_len, IfSome, IfOk, IfErr, OnOk, OnErr};
 
 use links::{Layer, Refusal, Refused};
 use std::alloc::{AllocError, Global};
 use std::collections::BTreeSet;
 
-// Links, barred pairs, and how many more links each load and the book may take.
+/// Links, barred pairs, and how many more links each load and the book may take.
 #[derive(Drop)]
 pub struct PlainBook {
     limit: usize,
@@ -16,7 +16,7 @@ pub struct PlainBook {
     room: usize,
 }
 
-// What a call answers that is granted or refused.
+/// What a call answers that is granted or refused.
 pub type Answer = Result<(), Refused>;
 
 // A pair of loads, the lower one first.
@@ -44,7 +44,7 @@ fn has_bit(byte: u8, j: usize) -> bool
 }
 
 impl PlainBook {
-    // A book without links, in which each load may take `spare` links, and the book `limit`.
+    /// A book without links, in which each load may take `spare` links, and the book `limit`.
     pub fn new(
         alloc: Global,
         size: usize,
@@ -63,8 +63,8 @@ impl PlainBook {
         })
     }
 
-    // Bars a pair. A link that it has is hidden: it counts as no link, and keeps its part of the
-    // spares and the room.
+    /// Bars a pair. A link that it has is hidden: it counts as no link, and keeps its part of the
+    /// spares and the room.
     pub fn bar(&mut self, a: usize, b: usize) -> Result<(), AllocError>
         ensures size { vec_len self.new.spares ≡ vec_len self.old.spares }
         ensures limit { self.new.limit ≡ self.old.limit }
@@ -74,8 +74,8 @@ impl PlainBook {
         Ok(())
     }
 
-    // Bars the pairs whose classes i and j are barred: byte i has bit j set, or byte j has bit i
-    // set. A class above 7 stands for 7; a load that is given none has class 0.
+    /// Bars the pairs whose classes i and j are barred: byte i has bit j set, or byte j has bit i
+    /// set. A class above 7 stands for 7; a load that is given none has class 0.
     pub fn bar_classes(&mut self, classes: &[u8], bars: [u8; 8]) -> Result<(), AllocError>
         ensures size { vec_len self.new.spares ≡ vec_len self.old.spares }
         ensures limit { self.new.limit ≡ self.old.limit }
@@ -92,60 +92,64 @@ impl PlainBook {
         Ok(())
     }
 
-    // The number of loads.
+    /// The number of loads.
     pub fn size(&self) -> usize
         ensures { result ≡ vec_len self.now.spares }
     {
         self.spares.len()
     }
 
+    /// The most links that the book takes.
     pub fn limit(&self) -> usize
         ensures { result ≡ self.now.limit }
     {
         self.limit
     }
 
+    /// Whether the pair is barred.
     pub fn is_barred(&self, a: usize, b: usize) -> bool {
         self.barred.contains(&pair(a, b))
     }
 
+    /// Whether the two are linked.
     pub fn linked(&self, a: usize, b: usize) -> bool {
         self.links.contains(&pair(a, b))
     }
 
-    // The smallest load at or above `from` that is linked to a.
+    /// The smallest load at or above `from` that is linked to a.
     pub fn next_linked(&self, a: usize, from: usize) -> Option<usize>
         ensures { IfSome result (λ b. (from ≤ b) × (b < vec_len self.now.spares)) }
     {
         (from..self.size()).find(|&b| self.linked(a, b))
     }
 
+    /// The number of links.
     pub fn link_count(&self) -> usize {
         self.links.len()
     }
 
-    // The number of links of a load.
+    /// The number of links of a load.
     pub fn degree(&self, a: usize) -> usize
         ensures { result ≤ vec_len self.now.spares }
     {
         (0..self.size()).filter(|&b| self.linked(a, b)).count()
     }
 
-    // How many more links a load may take.
+    /// How many more links a load may take.
     pub fn spare(&self, a: usize) -> usize
         ensures { vec_len self.now.spares ≤ a → result ≡ 0 }
     {
         self.spares.get(a).copied().unwrap_or(0)
     }
 
-    // How many more links the book may take.
+    /// How many more links the book may take.
     pub fn room(&self) -> usize
         ensures { result ≡ self.now.room }
     {
         self.room
     }
 
-    // Whether a and b are two loads of the book, as a layer tells it.
+    /// Whether a and b are two loads of the book, as a layer tells it.
     pub fn check_two(&self, a: usize, b: usize, layer: Layer) -> Answer
         ensures granted { OnOk result
             ((a < vec_len self.now.spares) × (b < vec_len self.now.spares) × (a ≢ b)) }
@@ -178,7 +182,7 @@ impl PlainBook {
         Err(reason.by(Layer::Book))
     }
 
-    // Adds the link of a and b, unless it is refused.
+    /// Adds the link of a and b, unless it is refused.
     pub fn add(&mut self, a: usize, b: usize) -> Result<Answer, AllocError>
         ensures refused { IfOk result (λ answer. OnErr answer (self.new ≡ self.old)) }
         ensures layer { IfOk result
@@ -197,7 +201,7 @@ impl PlainBook {
         Ok(answer)
     }
 
-    // Removes the link of a and b, unless it is refused.
+    /// Removes the link of a and b, unless it is refused.
     pub fn remove(&mut self, a: usize, b: usize) -> Answer
         ensures refused { OnErr result (self.new ≡ self.old) }
         ensures layer { IfErr result (λ refused. refused.layer ≡ Layer.Book) }
@@ -224,7 +228,7 @@ impl PlainBook {
         }
     }
 
-    // Removes every link of a load.
+    /// Removes every link of a load.
     pub fn remove_all(&mut self, a: usize)
         ensures size { vec_len self.new.spares ≡ vec_len self.old.spares }
         ensures limit { self.new.limit ≡ self.old.limit }

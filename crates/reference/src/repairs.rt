@@ -1,22 +1,23 @@
-// The two phases of a repair.
+//! The two phases of a repair.
 ghost use Rattle.std.specs.Prelude.{◌≡◌, ◌≤◌};
 
 use crate::pairing::Pairing;
 
-// How often a repair did what.
+/// How often a repair did what.
 #[derive(Clone, Copy, PartialEq, Eq, Debug)]
 pub struct RepairCounts {
-    // a free load paired with a free load that it is linked to
+    /// A free load paired with a free load that it is linked to.
     pub matched: u64,
-    // a path of three links augmented from a load of the repair
+    /// A path of three links augmented from a load of the repair.
     pub augmented: u64,
-    // a load displaced that then stayed free
+    /// A load displaced that then stayed free.
     pub displaced: u64,
-    // a load displaced, and a path augmented from it
+    /// A load displaced, and a path augmented from it.
     pub displaced_augmented: u64,
 }
 
 impl RepairCounts {
+    /// Nothing was done.
     pub const NONE: RepairCounts = RepairCounts {
         matched: 0,
         augmented: 0,
@@ -24,7 +25,7 @@ impl RepairCounts {
         displaced_augmented: 0,
     };
 
-    // These and others.
+    /// These and others.
     pub fn plus(self, other: RepairCounts) -> RepairCounts
         ensures matched { self.matched ≤ result.matched }
         ensures augmented { self.augmented ≤ result.augmented }

@@ -1,4 +1,4 @@
-// Steps of a stream, each with the line that it answers.
+//! Steps of a stream, each with the line that it answers.
 ghost use Rattle.std.specs.Prelude.{◌≡◌, IfOk, OnErr};
 
 use crate::calls::{Answer, Call, read};
@@ -6,7 +6,7 @@ use crate::pairing::Pairing;
 use links::{Layer, Refusal, Refused};
 use std::alloc::{AllocError, Global};
 
-// The line of a step, and the place after it.
+/// The line of a step, and the place after it.
 #[derive(Drop)]
 pub struct Step {
     pub line: String,
@@ -31,7 +31,7 @@ fn line(
 }
 
 impl Pairing {
-    // A step with an output of `room` bytes.
+    /// A step with an output of `room` bytes.
     pub fn step(
         &mut self,
         alloc: Global,
@@ -58,7 +58,7 @@ impl Pairing {
         Ok(Ok(Step { line, next }))
     }
 
-    // A line for each pair, in an output of `room` bytes: the lower load first, in rising order.
+    /// A line for each pair, in an output of `room` bytes: the lower load first, in rising order.
     pub fn pair_lines(
         &self,
         alloc: Global,

@@ -1,5 +1,5 @@
-// The repair of a matching at a list of loads, carried out on the tables of a board: first each
-// load of the list is matched with a free one, then each that is still free is improved.
+//! The repair of a matching at a list of loads, carried out on the tables of a board: first each
+//! load of the list is matched with a free one, then each that is still free is improved.
 #![tactic(auto)]
 
 ghost use Rattle.std.specs.Prelude.{◌≡◌};

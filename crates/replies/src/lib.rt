@@ -1,4 +1,4 @@
-// The lines of text that are answered, byte by byte.
+//! The lines of text that are answered, byte by byte.
 #![tactic(auto)]
 
 ghost use Rattle.std.specs.Prelude.{◌≡◌, ◌≤◌, length};

@@ -1,4 +1,4 @@
-// The test of strict rise, for every kind of record that has an order.
+//! The test of strict rise, for every kind of record that has an order.
 #![tactic(auto)]
 
 ghost use Rattle.std.specs.Prelude.{◌≡◌, ◌<◌, length, IfSome, MatchOption};

@@ -1,5 +1,5 @@
-// Memory in rows of equal length: in each row its count, then that many loads in rising order, then
-// zeros.
+//! Memory in rows of equal length: in each row its count, then that many loads in rising order,
+//! then zeros.
 #![tactic(auto)]
 
 ghost use Rattle.std.specs.Prelude.{◌≡◌, ◌+◌, ◌*◌, ◌≤◌, length};
@@ -8,7 +8,7 @@ ghost use Rattle.row.specs.Row.{changed};
 ghost use Rattle.row.specs.Memory.{loads_of_row, RowChanged};
 
 /// What can be done with a load in a row.
-// A closure in its place would need clauses in each function that hands it on.
+/// A closure in its place would need clauses in each function that hands it on.
 #[derive(Clone, Copy)]
 pub enum Change {
     /// Put it in, where the row is not full.

@@ -1,4 +1,4 @@
-// A link book in rows of equal length.
+//! A link book in rows of equal length.
 #![tactic(auto)]
 
 ghost use Rattle.std.specs.Prelude.{◌≡◌, length, None, MatchOption, nat_lt};

@@ -1,5 +1,5 @@
-// What holds of every book in rows that came from its making. The functions here do nothing: the
-// contract of each is a theorem.
+//! What holds of every book in rows that came from its making. The functions here do nothing: the
+//! contract of each is a theorem.
 ghost use Rattle.rows.specs.Theorems.{RowsOfGraph, MemoryFollows, SparesLeft};
 
 /// Row a is the number of links of a, the loads linked to a in rising order, and then zeros.

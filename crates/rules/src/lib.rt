@@ -1,5 +1,5 @@
-// The rules by which a board keeps its matching, and the theorems on them. The functions here do
-// nothing: the contract of each is a theorem, which the check therefore asks to be proved.
+//! The rules by which a board keeps its matching, and the theorems on them. The functions here do
+//! nothing: the contract of each is a theorem, which the check therefore asks to be proved.
 #![tactic(auto)]
 
 ghost use Rattle.rules.specs.Boards.{Thresholds, FreshProper, Row, RowAugmenting, Six, Star};

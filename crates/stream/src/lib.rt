@@ -1,4 +1,4 @@
-// A stream of commands played on a board, a step at a time, and the list of its pairs.
+//! A stream of commands played on a board, a step at a time, and the list of its pairs.
 #![tactic(auto)]
 
 ghost use Rattle.std.specs.Prelude.{◌≡◌, ◌≤◌, ◌<◌, length, IfSome, if◌then◌else◌};

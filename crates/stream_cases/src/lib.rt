@@ -1,5 +1,5 @@
-// Examples of what the commands, their texts and the play of a stream answer, proved safe and then
-// run.
+//! Examples of what the commands, their texts and the play of a stream answer, proved safe and then
+//! run.
 #![tactic(auto)]
 
 #[cfg(test)]

@@ -1,5 +1,5 @@
-// The tables of a board: the partner and the degree of each load, and which of the loads linked to
-// it are free.
+//! The tables of a board: the partner and the degree of each load, and which of the loads linked to
+//! it are free.
 #![tactic(auto)]
 
 mod changes;

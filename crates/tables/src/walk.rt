@@ -1,4 +1,4 @@
-// A walk over the free loads that a load is linked to.
+//! A walk over the free loads that a load is linked to.
 ghost use Rattle.std.specs.Prelude.{◌≡◌};
 ghost use Rattle.tables.specs.Views.{free_linked};
 ghost use Rattle.tables.specs.Walks.{OverFree};

@@ -1,4 +1,4 @@
-// What calls answer and what the audit finds, in words for people to read.
+//! What calls answer and what the audit finds, in words for people to read.
 #![tactic(auto)]
 
 use audit::audit;
@@ -6,7 +6,7 @@ use commands::Command;
 use links::{Links, Refused};
 use std::io;
 
-// A command, and what the call that it stands for answered.
+/// A command, and what the call that it stands for answered.
 pub fn answer(rt: &impl Print, command: Command, granted: Result<(), Refused>) -> io::Result<()> {
     match granted {
         Ok(()) => println!(rt; "{command}: ok"),
@@ -14,7 +14,7 @@ pub fn answer(rt: &impl Print, command: Command, granted: Result<(), Refused>) -
     }
 }
 
-// What the audit says of these claims, in a line.
+/// What the audit says of these claims, in a line.
 pub fn judge<L: Links>(rt: &impl Print, links: &L, claims: &[u16]) -> io::Result<()> {
     match audit(links, claims) {
         Ok(verdict) => println!(rt; "  {verdict}"),

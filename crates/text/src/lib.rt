@@ -1,4 +1,4 @@
-// Commands as lines of text: a word for the kind of command, then its loads in decimal.
+//! Commands as lines of text: a word for the kind of command, then its loads in decimal.
 #![tactic(auto)]
 
 ghost use Rattle.std.specs.Prelude.{◌≡◌, IfOk, string_bytes};

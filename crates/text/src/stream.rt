@@ -1,4 +1,4 @@
-// Whole texts: to a stream of commands, and back.
+//! Whole texts: to a stream of commands, and back.
 ghost use Rattle.std.specs.Prelude.{◌≡◌, ◌++◌, string_bytes, OnOk, Some};
 ghost use Rattle.commands.specs.Commands.{bytes, line_of};
 ghost use Rattle.text.specs.Lines.{Means};

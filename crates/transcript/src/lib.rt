@@ -1,4 +1,4 @@
-// All that is answered to a stream of commands: the line of each step, and then that of each pair.
+//! All that is answered to a stream of commands: the line of each step, and then that of each pair.
 #![tactic(auto)]
 
 ghost use Rattle.std.specs.Prelude.{◌≡◌, ◌++◌, None, Some};

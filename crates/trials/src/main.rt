@@ -1,5 +1,5 @@
-// Plays random boards, and holds each answer and all that can be asked after it against a second
-// implementation of the rules.
+//! Plays random boards, and holds each answer and all that can be asked after it against a second
+//! implementation of the rules.
 #![tactic(auto)]
 
 use anyhow::Result;

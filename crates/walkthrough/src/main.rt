@@ -1,5 +1,5 @@
-// Shows books, rows, a filter, rankings and audits at work, then a morning at an exchange on a
-// board, and says what each call answers.
+//! Shows books, rows, a filter, rankings and audits at work, then a morning at an exchange on a
+//! board, and says what each call answers.
 #![tactic(auto)]
 
 mod morning;

@@ -1,4 +1,4 @@
-// What the law of runs says of a board in play, of which no repair is computed.
+//! What the law of runs says of a board in play, of which no repair is computed.
 ghost use Rattle.graph.specs.Graph.{edgeless};
 ghost use Rattle.links.specs.Books.{Stands};
 ghost use Rattle.rules.specs.Boards.{fresh_ledger};

@@ -1,5 +1,5 @@
-// Boards played through on real books. What must come of each stands in its contract, and follows
-// from the contracts of boards, books and rankings alone.
+//! Boards played through on real books. What must come of each stands in its contract, and follows
+//! from the contracts of boards, books and rankings alone.
 #![tactic(auto)]
 
 ghost use Rattle.std.specs.Prelude.{◌≡◌, [], ◌∷◌, Some, None, Ok, Err};
@@ -62,6 +62,7 @@ pub fn six_loads<B: Book + Drop>(book: B) -> Result<[Option<usize>; 6], Refused>
     partners(&board)
 }
 
+/// The six loads on a bit matrix: 0 is with 2, 1 with 5, and 3 with 4.
 pub fn six_loads_on_bit_matrix() -> Result<[Option<usize>; 6], Refused>
     ensures { result ≡ Ok (Some 2 ∷ Some 5 ∷ Some 0 ∷ Some 4 ∷ Some 3 ∷ Some 1 ∷ []) }
 {
@@ -107,11 +108,11 @@ pub fn heavy_load_on_bit_matrix() -> Result<Displacement, Refused>
 /// What a board on a filter that hides the link of 0 and 1 answers.
 #[derive(Drop)]
 pub struct Filtered {
-    // to linking 0 and 1, and to unlinking them
+    /// To linking 0 and 1, and to unlinking them.
     pub linking: Result<(), Refused>,
     pub unlinking: Result<(), Refused>,
     pub partners: Result<[Option<usize>; 3], Refused>,
-    // to the question how many free loads load 1 is linked to
+    /// To the question how many free loads load 1 is linked to.
     pub free_links: Result<usize, Refused>,
 }
 

@@ -1,5 +1,5 @@
-// Memory that a caller lends for the book of a board, and what all of it holds after calls on the
-// board. The theorems are called for what their contracts say, and do nothing.
+//! Memory that a caller lends for the book of a board, and what all of it holds after calls on the
+//! board. The theorems are called for what their contracts say, and do nothing.
 ghost use Rattle.std.specs.Prelude.{◌≡◌, None, [], ◌∷◌, ◌++◌, drop, length};
 ghost use Rattle.links.specs.Refusals.{Answers, Kept};
 ghost use Rattle.books.specs.Matrix.{checking};

@@ -1,4 +1,4 @@
-// Steps of a stream on any board, and what a caller then knows of the board.
+//! Steps of a stream on any board, and what a caller then knows of the board.
 ghost use Rattle.worked_boards.specs.Stepping.{CarriesOut, CarriesOutTwo};
 
 use board::Board;
