@@ -65,6 +65,7 @@ fn claims<B: Book, R: Ranking>(board: &Board<B, R>) -> [u16; SIZE] {
     })
 }
 
+/// Prints what each call of the morning answers, the partners after it, and the audit of the last.
 pub fn play(rt: &impl Print) -> io::Result<()> {
     println!(rt;
         "A morning at an exchange: eight loads, at most nine links, the lower number first."

@@ -116,6 +116,7 @@ fn rankings(rt: &impl Print) -> io::Result<()> {
     compare(rt, "by detour", &by_detour, 1, 2)
 }
 
+/// Prints what books, rows, a filter, rankings and audits answer.
 pub fn show(rt: &impl Print) -> io::Result<()> {
     six_loads(rt)?;
     rows_and_filter(rt)?;
