@@ -2,7 +2,7 @@
 use Rattle.std.proofs.Common.{◌≡◌, ℕ, ◌+◌, ◌<◌, ◌≤◌, true, false, Option, sym, ap, ◌∙◌, subst, inl, inr, arith}
 use Rattle.std.proofs.lemmas.Bool.{cases_eq}
 use Rattle.std.proofs.lemmas.Bool.Decides.{nat_tests}
-use Rattle.graph.specs.Graph.{Graph, Simple, First, added, edgeless}
+use Rattle.graph.specs.Graph.{Graph, Simple, First, added, no_links}
 use Rattle.links.specs.declared.walk.Walk.{Walk}
 use Rattle.links.specs.declared.walk.LinkedTo.{LinkedTo}
 use Rattle.links.specs.Walks.{NextBelow, past, Walks, Over}
@@ -82,7 +82,7 @@ module _ (g : Graph) (s : Simple g) where
 
   pub record_none : {t : Tables} → New t → AllFree (links_before g 0 0) t
   record_none {t} new =
-      let same : edgeless g.size ≡ links_before g 0 0 = λ i. record { size = g.size; linked = λ x y. none_before x y i } in
+      let same : no_links g.size ≡ links_before g 0 0 = λ i. record { size = g.size; linked = λ x y. none_before x y i } in
       record { partners = new.partners; agrees = subst (λ (h : Graph). Agrees h t) same (new.agrees g.size) }
 
   pub record_all : {t : Tables} (n : ℕ) → n ≡ g.size → AllFree (links_before g n 0) t → AllFree g t

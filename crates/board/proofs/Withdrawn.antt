@@ -11,7 +11,7 @@ use Rattle.rules.proofs.Fewer.{withdraw_fewer}
 use Rattle.rules.proofs.Reasons.{load_none}
 use Rattle.tables.specs.declared.Tables.{Tables}
 use Rattle.tables.specs.Views.{partners_of}
-use Rattle.tables.specs.Changes.{OfBook, Parting}
+use Rattle.tables.specs.Changes.{OfLinks, Parting}
 use Rattle.repair.specs.Holds.{Changes}
 use Rattle.board.specs.declared.Board.{Board}
 use Rattle.board.specs.Boards.{Stands, FollowsBook, FollowsRules}
@@ -45,9 +45,9 @@ module _ {B R : Type 0} (graph : B → Graph) (made : B → Type 0) (ledger : B 
         (links_left t.tables removes) (omega (arith, fewer, stands.sound.bounded.within))
 
     pub withdrawn_partner : (b : ℕ) → partners_of s.tables a ≡ Some b → (u v : Tables) → RemovesLinks graph made ledger a s.book s.tables t.book u →
-        OfBook (made t.book) (graph t.book) (λ h. Parting h a b u v) →
+        OfLinks (made t.book) (graph t.book) (λ h. Parting h a b u v) →
         (n : ℕ) → (made t.book → n ≡ threshold (ledger t.book).limit) → (made t.book → Bounded (graph t.book) (ledger t.book)) →
-        OfBook (made t.book) (graph t.book) (λ h. Changes h (repair (before s.ranking) n h (the_one (Some b))) v t.tables) →
+        OfLinks (made t.book) (graph t.book) (λ h. Changes h (repair (before s.ranking) n h (the_one (Some b))) v t.tables) →
         FollowsRules graph made ledger (before s.ranking) s (withdraw a) (Ok tt) t
     withdrawn_partner b pair u v removes parts n n-is bounded change =
         let p = partners_of s.tables in

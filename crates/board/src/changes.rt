@@ -1,7 +1,7 @@
 // The calls that change a board.
 ghost use Rattle.std.specs.Prelude.{◌≡◌};
 ghost use Rattle.rules.specs.Calls.{link, unlink, withdraw, depart};
-ghost use Rattle.tables.specs.Changes.{OfBook};
+ghost use Rattle.tables.specs.Changes.{OfLinks};
 ghost use Rattle.board.specs.Boards.{Steps};
 ghost use Rattle.board.specs.Leaving.{RemovesLinks};
 ghost use Rattle.board.specs.Parting.{PartsPartners};
@@ -13,7 +13,7 @@ use tables::Tables;
 
 // If a and b are partners, they part.
 fn part_partners<L: Links>(tables: &mut Tables, links: &L, a: usize, b: usize)
-    ensures { OfBook (L.Links.made links.now) (L.Links.graph links.now)
+    ensures { OfLinks (L.Links.made links.now) (L.Links.graph links.now)
         (λ g. PartsPartners g a b tables.old tables.new) }
 {
     if tables.partner(a) == Some(b) {

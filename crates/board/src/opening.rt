@@ -1,6 +1,6 @@
 // How a board is opened on a book, and let go.
 ghost use Rattle.std.specs.Prelude.{◌≡◌, ◌+◌, ◌<◌};
-ghost use Rattle.tables.specs.Changes.{OfBook};
+ghost use Rattle.tables.specs.Changes.{OfLinks};
 ghost use Rattle.board.specs.Boards.{Opens};
 ghost use Rattle.board.specs.Runs.{Law};
 ghost use Rattle.board.specs.Recording.{AllFree, links_before};
@@ -14,7 +14,7 @@ use tables::Tables;
 
 // Records the links of a with the loads below it.
 fn record_below<L: Links>(tables: &mut Tables, links: &L, a: usize)
-    ensures { OfBook (L.Links.made links.now) (L.Links.graph links.now)
+    ensures { OfLinks (L.Links.made links.now) (L.Links.graph links.now)
         (λ g. a < g.size →
         AllFree (links_before g a 0) tables.old → AllFree (links_before g (a + 1) 0) tables.new) }
 {
@@ -25,7 +25,7 @@ fn record_below<L: Links>(tables: &mut Tables, links: &L, a: usize)
 
 // The tables of the links of the loads below `size`, all of which are free.
 fn recorded<L: Links>(links: &L, size: usize) -> Tables
-    ensures { OfBook (L.Links.made links.now) (L.Links.graph links.now)
+    ensures { OfLinks (L.Links.made links.now) (L.Links.graph links.now)
         (λ g. size ≡ g.size → AllFree g result) }
 {
     let mut tables = Tables::new();

@@ -37,8 +37,8 @@ link_count g = total g.size (λ a. count a (g.linked a))
 abbrev pub is_pair : ℕ → ℕ → ℕ → ℕ → Bool
 is_pair a b x y = (a == x && b == y) || (a == y && b == x)
 
-abbrev pub edgeless : ℕ → Graph
-edgeless n = record { size = n; linked = λ _ _. false }
+abbrev pub no_links : ℕ → Graph
+no_links n = record { size = n; linked = λ _ _. false }
 
 abbrev pub added : Graph → ℕ → ℕ → Graph
 added g a b = record { size = g.size; linked = λ x y. g.linked x y || is_pair a b x y }

@@ -5,7 +5,7 @@ use Rattle.std.proofs.lemmas.Bool.Decides.{nat_tests}
 use Rattle.std.specs.declared.cmp.Ordering.{Ordering}
 use Rattle.std.specs.Ordering.{nat_cmp, on, then_cmp}
 use Rattle.links.specs.Books.{unless_size}
-use Rattle.rise.specs.Rise.{comes_before, StrictTotal, InOrder, Rises, FirstUnordered}
+use Rattle.strict_order.specs.StrictOrder.{comes_before, StrictTotal, InOrder, Rises, FirstUnordered}
 use Rattle.link_list.specs.declared.Entry.{Entry}
 use Rattle.link_list.specs.Entries.{entry_before, unordered, out_of_bounds, lower_of, first}
 use Rattle.link_list.specs.Lists.{Sound, checking, bad_entry}

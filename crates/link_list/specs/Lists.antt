@@ -1,11 +1,11 @@
 -- The graph of a list of entries, and when a list is refused.
 use Rattle.std.specs.Prelude.{◌≡◌, ℕ, zero, suc, ◌<◌, ◌≤◌, Bool, true, false, ◌||◌, List, [], ◌∷◌}
 use Rattle.std.specs.Prelude.{length, Some, None, Option}
-use Rattle.graph.specs.Graph.{Graph, edgeless}
+use Rattle.graph.specs.Graph.{Graph, no_links}
 use Rattle.links.specs.Books.{unless_size}
 use Rattle.links.specs.Refusals.{Reason}
 use Rattle.links.specs.declared.refusal.Layer.TheVariants.{Book}
-use Rattle.rise.specs.Rise.{Rises}
+use Rattle.strict_order.specs.StrictOrder.{Rises}
 use Rattle.link_list.specs.declared.Entry.{Entry}
 use Rattle.link_list.specs.declared.LinkList.{LinkList}
 use Rattle.link_list.specs.Entries.{entry_before, in_bounds, joins, entry_at, out_of_bounds}
@@ -45,4 +45,4 @@ checking n es =
 -- what a making gives under the first reason to refuse, if there is one
 abbrev pub Listing : Option Reason → ℕ → List Entry → LinkList → Type 0
 Listing None n es l = list_graph l ≡ graph_of n es
-Listing (Some reason) n es l = list_graph l ≡ edgeless 0
+Listing (Some reason) n es l = list_graph l ≡ no_links 0

@@ -8,7 +8,7 @@ ghost use Rattle.link_list.specs.Entries.{out_of_bounds};
 ghost use Rattle.link_list.specs.Lists.{list_graph, ListMade, checking, Sound, Listing};
 
 use links::{Layer, Links, Refusal, Refused, check_size};
-use rise::first_unordered;
+use strict_order::first_unordered;
 
 /// The link of the loads a and b, where a is the lower one. Entries are ordered by a, and then by
 /// b.

@@ -5,7 +5,7 @@ ghost use Rattle.graph.specs.Matching.{Free};
 ghost use Rattle.rules.specs.Repair.{light_start_of, displace, improve};
 ghost use Rattle.rules.specs.Threshold.{threshold};
 ghost use Rattle.tables.specs.Views.{partners_of, Agrees};
-ghost use Rattle.repair.specs.Book.{OnBook};
+ghost use Rattle.repair.specs.Book.{OnLinks};
 ghost use Rattle.repair.specs.Holds.{Changes, Augments, LightPartner};
 
 use crate::Repair;
@@ -37,7 +37,7 @@ impl<L: Links, R: Ranking> Repair<'_, L, R> {
     // Takes the first augmenting path of three links that begins at a, which is free. Answers
     // whether there is one.
     fn augment(&self, tables: &mut Tables, a: usize) -> bool
-        ensures { OnBook L.Links.made L.Links.graph R.Ranking.before self.now
+        ensures { OnLinks L.Links.made L.Links.graph R.Ranking.before self.now
             (λ before t g. Augments before g a result tables.old tables.new) }
     {
         let Some((_, x, y, z)) = self.find_path(tables, a) else {
@@ -50,7 +50,7 @@ impl<L: Links, R: Ranking> Repair<'_, L, R> {
     // The first in a's ranking of the loads linked to a whose partner has no more links than the
     // threshold.
     fn light_start(&self, tables: &Tables, a: usize) -> Option<usize>
-        ensures { OnBook L.Links.made L.Links.graph R.Ranking.before self.now
+        ensures { OnLinks L.Links.made L.Links.graph R.Ranking.before self.now
             (λ before t g. Agrees g tables.now
             → result ≡ light_start_of before t g (partners_of tables.now) a) }
     {
@@ -61,7 +61,7 @@ impl<L: Links, R: Ranking> Repair<'_, L, R> {
 
     // a, which is free, displaces a light load if a has more links than the threshold.
     fn displace(&self, tables: &mut Tables, a: usize)
-        ensures { OnBook L.Links.made L.Links.graph R.Ranking.before self.now
+        ensures { OnLinks L.Links.made L.Links.graph R.Ranking.before self.now
             (λ before t g. Free (partners_of tables.old) a
             → Changes g (displace before t g a) tables.old tables.new) }
     {
@@ -77,7 +77,7 @@ impl<L: Links, R: Ranking> Repair<'_, L, R> {
     // Improves the matching at a, if a is free and has links: an augmenting path is taken, or else
     // a light load is displaced.
     pub(super) fn improve(&self, tables: &mut Tables, a: usize)
-        ensures { OnBook L.Links.made L.Links.graph R.Ranking.before self.now
+        ensures { OnLinks L.Links.made L.Links.graph R.Ranking.before self.now
             (λ before t g. Changes g (improve before t g a) tables.old tables.new) }
     {
         if !tables.is_free(a) || tables.links(a) == 0 {

@@ -6,7 +6,7 @@ ghost use Rattle.std.specs.Prelude.{◌≡◌};
 ghost use Rattle.rules.specs.Repair.{repair};
 ghost use Rattle.rules.specs.Calls.{in_order};
 ghost use Rattle.repair.specs.Holds.{Changes};
-ghost use Rattle.repair.specs.Book.{OnBook};
+ghost use Rattle.repair.specs.Book.{OnLinks};
 
 use links::Links;
 use ranking::Ranking;
@@ -52,7 +52,7 @@ impl<L: Links, R: Ranking> Repair<'_, L, R> {
     /// is displaced. Loads that have a partner or no links are passed over. Looks at the links of
     /// the free loads of the list, and at those of each load that becomes free or is no longer.
     pub fn repair(&self, tables: &mut Tables, loads: &[usize])
-        ensures { OnBook L.Links.made L.Links.graph R.Ranking.before self.now
+        ensures { OnLinks L.Links.made L.Links.graph R.Ranking.before self.now
             (λ before t g. Changes g (repair before t g loads.now) tables.old tables.new) }
     {
         for &load in loads {
@@ -67,7 +67,7 @@ impl<L: Links, R: Ranking> Repair<'_, L, R> {
     /// it does nothing, and looks at two records. Else it looks at the links of the free ones of
     /// the two, and at those of each load that becomes free or is no longer.
     pub fn repair_two(&self, tables: &mut Tables, a: usize, b: usize)
-        ensures { OnBook L.Links.made L.Links.graph R.Ranking.before self.now
+        ensures { OnLinks L.Links.made L.Links.graph R.Ranking.before self.now
             (λ before t g. Changes g (repair before t g (in_order a b)) tables.old tables.new) }
     {
         if tables.is_free(a) || tables.is_free(b) {

@@ -2,7 +2,7 @@
 ghost use Rattle.std.specs.Prelude.{◌≡◌};
 ghost use Rattle.rules.specs.Repair.{path_start_of};
 ghost use Rattle.tables.specs.Views.{partners_of, free_linked, Agrees};
-ghost use Rattle.repair.specs.Book.{OnBook};
+ghost use Rattle.repair.specs.Book.{OnLinks};
 ghost use Rattle.repair.specs.Paths.{FirstOther, HasOther, GoesOver, PathIs};
 
 use crate::Repair;
@@ -49,7 +49,7 @@ impl<L: Links, R: Ranking> Repair<'_, L, R> {
 
     // The first in a's ranking with which an augmenting path of three links goes on from a.
     fn path_start(&self, tables: &Tables, a: usize) -> Option<usize>
-        ensures { OnBook L.Links.made L.Links.graph R.Ranking.before self.now
+        ensures { OnLinks L.Links.made L.Links.graph R.Ranking.before self.now
             (λ before t g. Agrees g tables.now
             → result ≡ path_start_of before g (partners_of tables.now) a) }
     {
@@ -63,7 +63,7 @@ impl<L: Links, R: Ranking> Repair<'_, L, R> {
         tables: &Tables,
         a: usize,
     ) -> Option<(usize, usize, usize, usize)>
-        ensures { OnBook L.Links.made L.Links.graph R.Ranking.before self.now
+        ensures { OnLinks L.Links.made L.Links.graph R.Ranking.before self.now
             (λ before t g. Agrees g tables.now
             → PathIs before g (partners_of tables.now) a result) }
     {

@@ -1,7 +1,7 @@
 -- Boards played through by the rules, on fresh books and with the lower number first.
 use Rattle.std.specs.Prelude.{◌≡◌, ℕ, zero, suc, ◌+◌, ◌-◌, ◌%◌, ◌≤◌, Bool, false, cond, List, []}
 use Rattle.std.specs.Prelude.{◌∷◌, ◌++◌, Some, None, Option, ◌==◌, nat_lt}
-use Rattle.graph.specs.Graph.{edgeless, degree}
+use Rattle.graph.specs.Graph.{no_links, degree}
 use Rattle.graph.specs.Matching.{Augmenting}
 use Rattle.links.specs.Books.{Ledger, by_book}
 use Rattle.links.specs.Refusals.{Reason}
@@ -31,11 +31,11 @@ fresh_ledger n limit =
     }
 
 abbrev pub fresh : ℕ → ℕ → Position
-fresh n limit = opened by_number (edgeless n) (fresh_ledger n limit)
+fresh n limit = opened by_number (no_links n) (fresh_ledger n limit)
 
 -- such a book is proper
 abbrev pub FreshProper : Type 0
-FreshProper = (n limit : ℕ) → n ≤ 256 → limit ≤ 32640 → Proper (edgeless n) (fresh_ledger n limit)
+FreshProper = (n limit : ℕ) → n ≤ 256 → limit ≤ 32640 → Proper (no_links n) (fresh_ledger n limit)
 
 abbrev pub played_by : Ranking → List Call → Position → Position
 played_by before [] x = x
@@ -158,7 +158,7 @@ pub record Refusals : Type 0 where
   pub linked_already : reason row (link 2 1) ≡ by_book 6
   pub not_linked : reason row (unlink 0 3) ≡ by_book 7
   pub no_spare :
-      answers (link 0 1 ∷ link 0 2 ∷ []) (opened by_number (edgeless 3)
+      answers (link 0 1 ∷ link 0 2 ∷ []) (opened by_number (no_links 3)
       (record { limit = 3; barred = λ _ _. false; spare = λ _. 1; room = 3 }))
       ≡ None ∷ by_book 9 ∷ []
   pub no_room : answers (link 0 1 ∷ link 2 3 ∷ []) (fresh 4 1) ≡ None ∷ by_book 10 ∷ []

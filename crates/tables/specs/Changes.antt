@@ -11,8 +11,8 @@ use Rattle.tables.specs.Views.{partners_of, links_of, free_count_of, free_linked
 use Rattle.tables.specs.Steps.{stepped}
 
 -- what holds for the graph of a book, where the book came from its making
-abbrev pub OfBook : Type 0 → Graph → (Graph → Type 0) → Type 0
-OfBook made g Holds = made → Simple g → Holds g
+abbrev pub OfLinks : Type 0 → Graph → (Graph → Type 0) → Type 0
+OfLinks made g Holds = made → Simple g → Holds g
 
 -- with the link of a and b, or without it
 abbrev pub relinked : Bool → Graph → ℕ → ℕ → Graph

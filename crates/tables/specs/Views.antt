@@ -1,6 +1,6 @@
 -- What the tables say of each load, and when they agree with a graph.
 use Rattle.std.specs.Prelude.{◌≡◌, ℕ, ◌≤◌, Bool, ◌&&◌, [], None, slice_index_or}
-use Rattle.graph.specs.Graph.{Graph, count, degree, edgeless}
+use Rattle.graph.specs.Graph.{Graph, count, degree, no_links}
 use Rattle.graph.specs.Matching.{Partners}
 use Rattle.graph.specs.Pairs.{has_partner, is_free}
 use Rattle.bits.specs.Words.{member}
@@ -56,4 +56,4 @@ pub record Agrees (g : Graph) (t : Tables) : Type 0 where
 -- tables of loads that are free and have no links, however many there are
 pub record New (t : Tables) : Type 0 where
   pub partners : partners_of t ≡ (λ _. None)
-  pub agrees : (n : ℕ) → Agrees (edgeless n) t
+  pub agrees : (n : ℕ) → Agrees (no_links n) t

@@ -11,7 +11,7 @@ ghost use Rattle.transcript.specs.Words.{failure_text};
 ghost use Rattle.transcript.specs.Worked.{WorkedStream};
 
 use board::Board;
-use books::bit_matrix::BitMatrix;
+use bit_matrix::BitMatrix;
 use links::{Book, Refused};
 use ranking::{ByNumber, Ranking};
 use replies::{LONGEST_LINE, LONGEST_PAIR};

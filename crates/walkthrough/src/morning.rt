@@ -2,12 +2,12 @@
 
 use audit::NO_PARTNER;
 use board::Board;
-use books::bit_matrix::BitMatrix;
+use bit_matrix::BitMatrix;
 use commands::Command;
 use links::{Book, Refused};
 use ranking::{ByNumber, Ranking};
 use std::{array, io};
-use telling::{answer, judge};
+use crate::report::{answer, judge};
 
 const SIZE: usize = 8;
 

@@ -1,16 +1,16 @@
 // A bit matrix, rows, a filter, the audit and the rankings at work.
 
 use audit::NO_PARTNER;
-use books::bit_matrix::BitMatrix;
+use bit_matrix::BitMatrix;
 use commands::Command;
-use filter::ClassFilter;
+use class_filter::ClassFilter;
 use links::walk::linked_loads;
 use links::{Book, Links};
 use ranking::detour::{ByDetour, Place};
 use ranking::{ByNumber, Ranking};
-use rows::SortedRows;
+use sorted_rows::SortedRows;
 use std::io;
-use telling::{answer, judge};
+use crate::report::{answer, judge};
 
 // Links the two loads of each pair, one pair after the other.
 fn add<B: Book>(rt: &impl Print, book: &mut B, pairs: &[(u16, u16)]) -> io::Result<()> {

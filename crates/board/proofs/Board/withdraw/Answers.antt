@@ -2,7 +2,7 @@ use Rattle.std.proofs.Common.{[], ◌∷◌, sym, refl, ap}
 use Rattle.rules.specs.Repair.{repair}
 use Rattle.rules.specs.Threshold.{threshold}
 use Rattle.repair.specs.Holds.{Changes}
-use Rattle.repair.proofs.Book.{on_book}
+use Rattle.repair.proofs.Book.{on_links}
 use Rattle.board.proofs.Withdrawn.{withdrawn_book, withdrawn_free, withdrawn_partner}
 use Rattle.board.proofs.Board.withdraw.Goals as goal
 
@@ -24,7 +24,7 @@ returns-in-Some g c =
           made_is (load.simple made_is) c.remove_links.new.tables c.remove_links.ensures.removes;
       partners = λ stands.
           let parts = c.repair_of.ensures in
-          let change = on_book made graph before (λ before t graph. Changes graph (repair before t graph (c.in-Some.b ∷ [])) c.part.new.self c.repair.new.tables)
+          let change = on_links made graph before (λ before t graph. Changes graph (repair before t graph (c.in-Some.b ∷ [])) c.part.new.self c.repair.new.tables)
           c.repair_of.result c.remove_links.new.book s.ranking c.repair_of.result.limit parts.links parts.ranking refl c.repair.ensures in
           withdrawn_partner graph made ledger before s c.args.a (load.load stands.book_made).0 (record { book = c.remove_links.new.book; ranking = s.ranking; tables = c.repair.new.tables })
           stands c.in-Some.b (sym c.in-Some.ensures.value) c.remove_links.new.tables c.part.new.self c.remove_links.ensures.removes c.part.ensures.changed

@@ -1,0 +1,4 @@
+pub mod RowChange
+pub mod Rising
+pub mod RowLaws
+pub mod RowMemory
