@@ -6,7 +6,7 @@ use Rattle.std.specs.Bool.{then_some}
 use Rattle.std.specs.List.{find, range_with_len}
 use Rattle.std.specs.Option.{option_or, option_map}
 use Rattle.links.proofs.FindMap.{find_map, find_map-filter, find-find_map}
-use Rattle.links.proofs.Walks.{members, find_of_filter}
+use Rattle.links.proofs.InOrder.{members, find_of_filter}
 use Rattle.audit.specs.Verdicts.{lowest}
 
 pub lowest_none : {A : Type 0} (n : ℕ) (f : ℕ → Option A) → ((k : ℕ) → k < n → f k ≡ None) → lowest n f ≡ None

@@ -13,7 +13,7 @@ ghost use Rattle.audit.specs.Verdicts.{path_of_one_at, lowest_path_of_one, path_
 ghost use Rattle.audit.specs.Verdicts.{lowest_path_of_three, meaning, verdict, Audits};
 ghost use Rattle.audit.specs.Words.{verdict_text};
 
-use links::walk::linked_loads;
+use links::members::linked_loads;
 use links::{Layer, Links, Refusal, Refused};
 use std::fmt;
 

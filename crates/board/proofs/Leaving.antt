@@ -52,7 +52,7 @@ module _ {B : Type 0} (graph : B → Graph) (made : B → Type 0) (ledger : B �
     pub now_simple : Simple (graph s)
     now_simple = subst Simple (sym so_far.book.graph_is) (stripped_simple g a simple from)
 
-    -- a link that the walk comes to can be removed
+    -- a link that the loop comes to can be removed
     pub never_refused : (b : ℕ) → First ((graph s).linked a) from b → (r : Reason) → removing (graph s) a b ≡ Some r → ⊥
     never_refused b next r why = both_ways (is_some (removing (graph s) a b)) (ap is_some (next_removable (graph s) now_simple a from b next)) (ap is_some why)
 

@@ -6,7 +6,7 @@ ghost use Rattle.board.specs.Runs.{Law};
 ghost use Rattle.board.specs.Recording.{AllFree, links_before};
 
 use crate::{Board, repair_of};
-use links::walk::linked_loads;
+use links::members::linked_loads;
 use links::{Book, Links};
 use ranking::Ranking;
 use std::array;

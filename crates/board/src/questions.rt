@@ -24,7 +24,7 @@ impl<B: Book, R: Ranking> Board<B, R> {
             self.now (ask_free_links a) result self.now }
     {
         self.check_load(a)?;
-        Ok(self.tables.free_links(a))
+        Ok(self.tables.free_degree(a))
     }
 
     /// The smallest free load at or above `from` that a load is linked to, if there is one. Refused
@@ -45,10 +45,10 @@ impl<B: Book, R: Ranking> Board<B, R> {
     }
 
     /// The number of pairs. It looks at every load.
-    pub fn pairs(&self) -> usize
+    pub fn pair_count(&self) -> usize
         ensures { Steps B.Links.graph B.Links.made B.Book.ledger B.Book.fixed R.Ranking.before
             self.now ask_pairs (Ok result) self.now }
     {
-        self.tables.matched() / 2
+        self.tables.matched_count() / 2
     }
 }

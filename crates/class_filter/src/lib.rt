@@ -10,7 +10,7 @@ ghost use Rattle.class_filter.specs.Classes.{FilterMade, filter_ledger, FilterFi
 ghost use Rattle.class_filter.specs.Classes.{unless_visible, AddedBelow, RemovedBelow};
 
 use bits::bit_of;
-use links::walk::{linked_loads, linked_loads_from};
+use links::members::{linked_loads, linked_loads_from};
 use links::{Book, Layer, Links, Refusal, Refused, check_two};
 
 /// A book with classes given to its loads, and some pairs of classes barred: the links of barred

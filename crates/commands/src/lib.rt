@@ -3,12 +3,13 @@
 #![tactic(auto)]
 
 ghost use Rattle.std.specs.Prelude.{◌≡◌, ◌+◌, ◌*◌, ◌≤◌, length, take, None, Some};
-ghost use Rattle.links.specs.Outputs.{Writes};
+ghost use Rattle.outputs.specs.Outputs.{Writes};
 ghost use Rattle.links.specs.Refusals.{Answers};
 ghost use Rattle.commands.specs.Commands.{bytes, line_of, decoding, decoded, unless_short, Reads};
 ghost use Rattle.commands.specs.Commands.{Spanned, ReadsBack};
 
-use links::{Layer, Refusal, Refused, write_start};
+use links::{Layer, Refusal, Refused};
+use outputs::write_start;
 use std::fmt;
 
 /// A stream has at most this many bytes.

@@ -1,5 +1,5 @@
 //! What can be asked of links, what a book of links can change, the checks that every book makes,
-//! the tally of a book, walks over linked loads, the refusals, and the writing of bytes.
+//! the tally of a book, the linked loads in order, and the refusals.
 #![tactic(auto)]
 
 ghost use Rattle.std.specs.Prelude.{◌≡◌, None};
@@ -9,12 +9,10 @@ ghost use Rattle.links.specs.Books.{unless_limit, unless_two_of, unless_open, un
 ghost use Rattle.links.specs.Books.{unless_room, removing};
 ghost use Rattle.links.specs.Refusals.{Answers, told_by};
 
-mod output;
 mod refusal;
 mod tally;
-pub mod walk;
+pub mod members;
 
-pub use output::write_start;
 pub use refusal::{Layer, Refusal, Refused};
 pub use tally::Tally;
 

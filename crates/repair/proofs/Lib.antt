@@ -1,8 +1,8 @@
-pub mod Walks
+pub mod Bests
 pub mod Others
 pub mod Starts
 pub mod Taking
 pub mod Displacing
 pub mod Rounds
-pub mod Book
+pub mod OnLinks
 mod Heavy

@@ -5,13 +5,13 @@ ghost use Rattle.graph.specs.Matching.{Free};
 ghost use Rattle.rules.specs.Repair.{light_start_of, displace, improve};
 ghost use Rattle.rules.specs.Threshold.{threshold};
 ghost use Rattle.tables.specs.Views.{partners_of, Agrees};
-ghost use Rattle.repair.specs.Book.{OnLinks};
+ghost use Rattle.repair.specs.OnLinks.{OnLinks};
 ghost use Rattle.repair.specs.Holds.{Changes, Augments, LightPartner};
 
 use crate::Repair;
 use crate::best::best_of;
 use links::Links;
-use links::walk::linked_loads;
+use links::members::linked_loads;
 use ranking::Ranking;
 use tables::Tables;
 
@@ -30,7 +30,7 @@ fn has_light_partner(tables: &Tables, limit: usize, x: usize) -> bool
 {
     tables
         .partner(x)
-        .is_some_and(|y| !is_heavy(tables.links(y), limit))
+        .is_some_and(|y| !is_heavy(tables.degree(y), limit))
 }
 
 impl<L: Links, R: Ranking> Repair<'_, L, R> {
@@ -54,9 +54,9 @@ impl<L: Links, R: Ranking> Repair<'_, L, R> {
             (λ before t g. Agrees g tables.now
             → result ≡ light_start_of before t g (partners_of tables.now) a) }
     {
-        let walk = linked_loads(self.links, a, 256);
+        let linked = linked_loads(self.links, a, 256);
         let is_light = |x| has_light_partner(tables, self.limit, x);
-        best_of(self.ranking, a, walk, is_light)
+        best_of(self.ranking, a, linked, is_light)
     }
 
     // a, which is free, displaces a light load if a has more links than the threshold.
@@ -65,7 +65,7 @@ impl<L: Links, R: Ranking> Repair<'_, L, R> {
             (λ before t g. Free (partners_of tables.old) a
             → Changes g (displace before t g a) tables.old tables.new) }
     {
-        if is_heavy(tables.links(a), self.limit)
+        if is_heavy(tables.degree(a), self.limit)
             && let Some(x) = self.light_start(tables, a)
             && let Some(y) = tables.partner(x)
         {
@@ -80,7 +80,7 @@ impl<L: Links, R: Ranking> Repair<'_, L, R> {
         ensures { OnLinks L.Links.made L.Links.graph R.Ranking.before self.now
             (λ before t g. Changes g (improve before t g a) tables.old tables.new) }
     {
-        if !tables.is_free(a) || tables.links(a) == 0 {
+        if !tables.is_free(a) || tables.degree(a) == 0 {
             return;
         }
         if !self.augment(tables, a) {

@@ -6,7 +6,7 @@ ghost use Rattle.std.specs.Prelude.{◌≡◌};
 ghost use Rattle.rules.specs.Repair.{repair};
 ghost use Rattle.rules.specs.Calls.{in_order};
 ghost use Rattle.repair.specs.Holds.{Changes};
-ghost use Rattle.repair.specs.Book.{OnLinks};
+ghost use Rattle.repair.specs.OnLinks.{OnLinks};
 
 use links::Links;
 use ranking::Ranking;

@@ -2,7 +2,7 @@
 #![tactic(auto)]
 
 ghost use Rattle.std.specs.Prelude.{◌≡◌, ◌≤◌, length};
-ghost use Rattle.links.specs.Outputs.{Writes};
+ghost use Rattle.outputs.specs.Outputs.{Writes};
 ghost use Rattle.replies.specs.declared.Reply.TheVariants.{With, No};
 ghost use Rattle.replies.specs.Digits.{DigitsDecimal, TwoDigitsDecimal};
 ghost use Rattle.replies.specs.Lines.{line, pair_line};
@@ -10,7 +10,8 @@ ghost use Rattle.replies.specs.Worked.{WorkedLines};
 
 use arrayvec::ArrayString;
 use itoa::Buffer;
-use links::{Refused, write_start};
+use links::Refused;
+use outputs::write_start;
 
 /// No reply has a longer line.
 pub const LONGEST_LINE: usize = 19;

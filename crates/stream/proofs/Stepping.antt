@@ -5,7 +5,7 @@ use Rattle.std.proofs.lemmas.Bool.{cond-true, cond-false, cases_lt, le-leb, lt-l
 use Rattle.std.proofs.lemmas.Bool.Decides.{nat_tests}
 use Rattle.graph.specs.Graph.{Graph}
 use Rattle.links.specs.Books.{Ledger}
-use Rattle.links.specs.Outputs.{unless_fits, Writes}
+use Rattle.outputs.specs.Outputs.{unless_fits, Writes}
 use Rattle.links.specs.Refusals.{Reason, Answers, told}
 use Rattle.links.specs.declared.refusal.Refused.{Refused}
 use Rattle.rules.specs.Calls.{Position, Answer, reason, answer}

@@ -3,7 +3,7 @@
 
 ghost use Rattle.std.specs.Prelude.{◌≡◌, ◌≤◌, ◌<◌, length, IfSome, if◌then◌else◌};
 ghost use Rattle.graph.specs.Pairs.{below_partner};
-ghost use Rattle.links.specs.Outputs.{Writes};
+ghost use Rattle.outputs.specs.Outputs.{Writes};
 ghost use Rattle.links.specs.Refusals.{Answers};
 ghost use Rattle.board.specs.Boards.{position, Stands};
 ghost use Rattle.stream.specs.Pairs.{lower_line, Lists};
@@ -12,7 +12,8 @@ ghost use Rattle.stream.specs.Steps.{stepping, Steps};
 
 use board::Board;
 use commands::{Command, check_length, read};
-use links::{Book, Layer, Links, Refusal, Refused, write_start};
+use links::{Book, Layer, Links, Refusal, Refused};
+use outputs::write_start;
 use ranking::Ranking;
 use replies::{LONGEST_LINE, LONGEST_PAIR, Reply, write_pair};
 
@@ -120,7 +121,7 @@ pub fn list_pairs<B: Book, R: Ranking>(
     ensures { Lists (Stands B.Links.graph B.Links.made B.Book.ledger board.now)
         (position B.Links.graph B.Book.ledger board.now) out.old result out.new }
 {
-    if out.len() / LONGEST_PAIR < board.pairs() {
+    if out.len() / LONGEST_PAIR < board.pair_count() {
         return Err(Refusal::OutputTooShort.by(Layer::Stream));
     }
     let mut lines = [0; LONGEST_LIST];

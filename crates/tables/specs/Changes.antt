@@ -7,7 +7,7 @@ use Rattle.graph.specs.Matching.{Free}
 use Rattle.graph.specs.Pairs.{is_free}
 use Rattle.rules.specs.Repair.{paired, freed}
 use Rattle.tables.specs.declared.Tables.{Tables}
-use Rattle.tables.specs.Views.{partners_of, links_of, free_count_of, free_linked, Agrees}
+use Rattle.tables.specs.Views.{partners_of, degree_of, free_degree_of, free_linked, Agrees}
 use Rattle.tables.specs.Steps.{stepped}
 
 -- what holds for the graph of a book, where the book came from its making
@@ -26,10 +26,10 @@ step_if c up n = cond c (stepped up n) n
 -- on any tables: a and b have one link more or fewer, and each has the other in its set, or no
 -- longer, if the other is free
 pub record Relinked (on : Bool) (a b : ℕ) (s t : Tables) : Type 0 where
-  pub degrees : (y : ℕ) → links_of t y ≡ step_if (b == y) on (step_if (a == y) on (links_of s y))
-  pub counts : (y : ℕ) → free_count_of t y
+  pub degrees : (y : ℕ) → degree_of t y ≡ step_if (b == y) on (step_if (a == y) on (degree_of s y))
+  pub counts : (y : ℕ) → free_degree_of t y
       ≡ step_if (b == y && is_free (partners_of s) a) on
-      (step_if (a == y && is_free (partners_of s) b) on (free_count_of s y))
+      (step_if (a == y && is_free (partners_of s) b) on (free_degree_of s y))
   pub sets : (y z : ℕ) → free_linked t y z
       ≡ cond (is_pair a b y z && is_free (partners_of s) z) on (free_linked s y z)
 
@@ -45,9 +45,9 @@ pub record Relinking (on : Bool) (a b : ℕ) (s t : Tables) : Type 0 where
 -- linked to b that b is
 pub record Told (g : Graph) (a : ℕ) (free-a : Bool) (b : ℕ) (free-b : Bool)
     (s t : Tables) : Type 0 where
-  pub degrees : (y : ℕ) → links_of t y ≡ links_of s y
-  pub counts : (y : ℕ) → free_count_of t y
-      ≡ step_if (g.linked b y) free-b (step_if (g.linked a y) free-a (free_count_of s y))
+  pub degrees : (y : ℕ) → degree_of t y ≡ degree_of s y
+  pub counts : (y : ℕ) → free_degree_of t y
+      ≡ step_if (g.linked b y) free-b (step_if (g.linked a y) free-a (free_degree_of s y))
   pub sets : (y z : ℕ) → free_linked t y z
       ≡ cond (g.linked b y && b == z) free-b
       (cond (g.linked a y && a == z) free-a (free_linked s y z))

@@ -27,11 +27,11 @@ abbrev pub partners_of : Tables → Partners
 partners_of t a = (record_of t a).partner
 
 -- how many links are recorded of a load, and how many to free loads
-abbrev pub links_of : Tables → ℕ → ℕ
-links_of t a = (record_of t a).links
+abbrev pub degree_of : Tables → ℕ → ℕ
+degree_of t a = (record_of t a).links
 
-abbrev pub free_count_of : Tables → ℕ → ℕ
-free_count_of t a = (record_of t a).free_links
+abbrev pub free_degree_of : Tables → ℕ → ℕ
+free_degree_of t a = (record_of t a).free_links
 
 -- b is recorded as a free load that a is linked to
 abbrev pub free_linked : Tables → ℕ → ℕ → Bool
@@ -43,9 +43,9 @@ matched_of t = count 256 (has_partner (partners_of t))
 
 -- links and free links are those of the graph g, where `free` says which loads are free
 pub record Tracks (g : Graph) (free : ℕ → Bool) (t : Tables) : Type 0 where
-  pub degrees : (a : ℕ) → links_of t a ≡ degree g a
+  pub degrees : (a : ℕ) → degree_of t a ≡ degree g a
   pub sets : (a b : ℕ) → free_linked t a b ≡ (g.linked a b && free b)
-  pub counts : (a : ℕ) → free_count_of t a ≡ count g.size (λ b. g.linked a b && free b)
+  pub counts : (a : ℕ) → free_degree_of t a ≡ count g.size (λ b. g.linked a b && free b)
 
 -- the tables agree with the graph g: a load is free if they record no partner of it, and past the
 -- size none has one

@@ -10,7 +10,7 @@ ghost use Rattle.tables.specs.Changes.{Exchanging, Replacing};
 
 use crate::Tables;
 use links::Links;
-use links::walk::linked_loads;
+use links::members::linked_loads;
 
 // One more or one less.
 fn step(n: u16, up: bool) -> u16

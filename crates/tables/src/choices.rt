@@ -34,7 +34,7 @@ impl Tables {
         ensures kept { is_free (partners_of self.old) a ≡ false → self.new ≡ self.old }
     {
         if self.is_free(a)
-            && self.free_links(a) > 0
+            && self.free_degree(a) > 0
             && let Some(b) = self.first_free(ranking, a)
         {
             self.pair(links, a, b);

@@ -6,8 +6,8 @@ mod changes;
 mod choices;
 mod load_set;
 mod questions;
-/// The walk over the free loads that a load is linked to.
-pub mod walk;
+/// The free loads that a load is linked to, in rising order.
+pub mod free_loads;
 
 /// What is kept of a load: its partner, how many links it has, and how many of them lead to free
 /// loads.

@@ -76,7 +76,7 @@ pub fn play(rt: &impl Print) -> io::Result<()> {
         answer(rt, command, make(&mut board, command))?;
         list_partners(rt, &board)?;
     }
-    println!(rt; "{} pairs are left.", board.pairs())?;
+    println!(rt; "{} pairs are left.", board.pair_count())?;
     println!(rt; "The audit of these pairs:")?;
     judge(rt, board.book(), &claims(&board))
 }

@@ -4,7 +4,7 @@ use audit::NO_PARTNER;
 use bit_matrix::BitMatrix;
 use commands::Command;
 use class_filter::ClassFilter;
-use links::walk::linked_loads;
+use links::members::linked_loads;
 use links::{Book, Links};
 use ranking::detour::{ByDetour, Place};
 use ranking::{ByNumber, Ranking};

@@ -1,6 +1,6 @@
 use Rattle.std.proofs.Common.{length, sym, ◌∙◌, rules, tests}
 use Rattle.links.proofs.FindMap.{find_map_from_yields_List}
-use Rattle.links.proofs.Walks.{YieldsList-from_linked_loads}
+use Rattle.links.proofs.InOrder.{YieldsList-from_linked_loads}
 use Rattle.audit.specs.Claims.{claimed}
 use Rattle.audit.specs.Steps.{path_beyond}
 use Rattle.audit.proofs.Lowest.{lowest_mapped_member}

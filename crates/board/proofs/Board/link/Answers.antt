@@ -3,7 +3,7 @@ use Rattle.rules.specs.Calls.{in_order}
 use Rattle.rules.specs.Repair.{repair}
 use Rattle.rules.specs.Threshold.{threshold}
 use Rattle.repair.specs.Holds.{Changes}
-use Rattle.repair.proofs.Book.{on_links}
+use Rattle.repair.proofs.OnLinks.{on_links}
 use Rattle.board.proofs.Linked.{linked_book, linked_rules}
 use Rattle.board.proofs.Board.link.Goals as goal
 

@@ -2,7 +2,7 @@ use Rattle.std.proofs.Common.{◌≡◌, ℕ, ◌≤◌, List, take, subst, refl
 use Rattle.rules.specs.Repair.{repair}
 use Rattle.rules.specs.Threshold.{threshold}
 use Rattle.repair.specs.Holds.{Changes}
-use Rattle.repair.proofs.Book.{on_links}
+use Rattle.repair.proofs.OnLinks.{on_links}
 use Rattle.board.proofs.Opened.{opens, opened_holds}
 use Rattle.board.proofs.Numbers.{numbers_below}
 use Rattle.board.proofs.Runs.{law}

@@ -3,7 +3,7 @@ use Rattle.rules.specs.Calls.{in_order}
 use Rattle.rules.specs.Repair.{repair}
 use Rattle.rules.specs.Threshold.{threshold}
 use Rattle.repair.specs.Holds.{Changes}
-use Rattle.repair.proofs.Book.{on_links}
+use Rattle.repair.proofs.OnLinks.{on_links}
 use Rattle.board.proofs.Unlinked.{unlinked_book, unlinked_rules}
 use Rattle.board.proofs.Board.unlink.Goals as goal
 

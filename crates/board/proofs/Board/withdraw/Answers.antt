@@ -2,7 +2,7 @@ use Rattle.std.proofs.Common.{[], ◌∷◌, sym, refl, ap}
 use Rattle.rules.specs.Repair.{repair}
 use Rattle.rules.specs.Threshold.{threshold}
 use Rattle.repair.specs.Holds.{Changes}
-use Rattle.repair.proofs.Book.{on_links}
+use Rattle.repair.proofs.OnLinks.{on_links}
 use Rattle.board.proofs.Withdrawn.{withdrawn_book, withdrawn_free, withdrawn_partner}
 use Rattle.board.proofs.Board.withdraw.Goals as goal
 

@@ -1,6 +1,6 @@
 use Rattle.std.proofs.Common.{not, ◌∙◌, rules, tests}
 use Rattle.std.proofs.lemmas.Iterator.Consumers.{YieldsList-at, YieldsList-from_filter, count_from_yields_List}
-use Rattle.links.proofs.Walks.{YieldsList-from_linked_loads, count_from_members}
+use Rattle.links.proofs.InOrder.{YieldsList-from_linked_loads, count_from_members}
 use Rattle.class_filter.specs.Classes.{hidden}
 use Rattle.class_filter.proofs.ClassFilter.count_visible.Goals as goal
 

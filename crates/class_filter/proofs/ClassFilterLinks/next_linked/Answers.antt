@@ -1,6 +1,6 @@
 use Rattle.std.proofs.Common.{not, rules, tests}
 use Rattle.std.proofs.lemmas.Iterator.Search.{find_from_yields_List}
-use Rattle.links.proofs.Walks.{YieldsList-from_linked_loads, NextBelow-from_members, Next-from_below}
+use Rattle.links.proofs.InOrder.{YieldsList-from_linked_loads, NextBelow-from_members, Next-from_below}
 use Rattle.class_filter.specs.Classes.{hidden, filter_graph}
 use Rattle.class_filter.proofs.Filtered.{filtered_simple, hidden_symmetric}
 use Rattle.class_filter.proofs.ClassFilterLinks.next_linked.Goals as goal

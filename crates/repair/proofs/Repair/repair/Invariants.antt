@@ -1,6 +1,6 @@
 use Rattle.std.proofs.Common.{take}
 use Rattle.rules.specs.Repair.{each, match_free, improve}
-use Rattle.repair.specs.Book.{OnLinks}
+use Rattle.repair.specs.OnLinks.{OnLinks}
 use Rattle.repair.specs.Holds.{Changes}
 use Rattle.repair.proofs.Repair.repair.Given as goal
 

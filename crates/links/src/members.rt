@@ -1,14 +1,14 @@
-//! Walks over numbers in rising order.
+//! The members of a set in rising order, each found as the next one.
 ghost use Rattle.std.specs.Prelude.{◌≡◌, ℕ, ◌-◌, Bool};
 ghost use Rattle.std.specs.Iterator.{at_most};
 ghost use Rattle.graph.specs.Graph.{Next};
-ghost use Rattle.links.specs.Walks.{Walks, Over};
+ghost use Rattle.links.specs.InOrder.{GivesNext, Over};
 
 use crate::Links;
 
 /// A set of numbers of which the next at or above another can be asked for. What the answers say
 /// holds of every value that came from its making; a call is safe and ends on any other too.
-pub trait Rising {
+pub trait NextMember {
     /// The numbers that are in the set.
     ghost member: { Self → ℕ → Bool };
 
@@ -27,7 +27,7 @@ pub struct LinkedTo<'a, L> {
     load: usize,
 }
 
-impl<L: Links> Rising for LinkedTo<'_, L> {
+impl<L: Links> NextMember for LinkedTo<'_, L> {
     ghost member = { λ s. (L.Links.graph s.links.now).linked s.load };
 
     ghost reliable = { λ s. L.Links.made s.links.now };
@@ -39,25 +39,25 @@ impl<L: Links> Rising for LinkedTo<'_, L> {
 
 /// The members of a set from a number on and below another, in rising order.
 #[derive(Drop)]
-pub struct Walk<S> {
+pub struct MembersInOrder<S> {
     set: S,
     from: usize,
     end: usize,
 }
 
-impl<S: Rising> Walk<S> {
+impl<S: NextMember> MembersInOrder<S> {
     /// The members of the set at or above `from` and below `end`.
-    pub fn new(set: S, from: usize, end: usize) -> Walk<S>
+    pub fn new(set: S, from: usize, end: usize) -> MembersInOrder<S>
         ensures { result ≡ record { set = set; from = from; end = end } }
     {
-        Walk { set, from, end }
+        MembersInOrder { set, from, end }
     }
 }
 
-impl<S: Rising + Drop> Iterator for Walk<S> {
+impl<S: NextMember + Drop> Iterator for MembersInOrder<S> {
     type Item = usize;
 
-    ghost next_gives = { Walks S.Rising.reliable S.Rising.member };
+    ghost next_gives = { GivesNext S.NextMember.reliable S.NextMember.member };
 
     ghost remaining = { λ s. at_most (s.end - s.from) };
 
@@ -72,9 +72,9 @@ impl<S: Rising + Drop> Iterator for Walk<S> {
     }
 }
 
-/// A walk over the loads below `end` that are linked to a. Each step asks for the next linked load
+/// The loads below `end` that are linked to a, in rising order. Each step asks for the next linked load
 /// once.
-pub fn linked_loads<L: Links>(links: &L, a: usize, end: usize) -> Walk<LinkedTo<'_, L>>
+pub fn linked_loads<L: Links>(links: &L, a: usize, end: usize) -> MembersInOrder<LinkedTo<'_, L>>
     ensures over { Over links.now a end result }
     ensures begins { result.from ≡ 0 }
 {
@@ -87,9 +87,9 @@ pub fn linked_loads_from<L: Links>(
     a: usize,
     from: usize,
     end: usize,
-) -> Walk<LinkedTo<'_, L>>
+) -> MembersInOrder<LinkedTo<'_, L>>
     ensures over { Over links.now a end result }
     ensures begins { result.from ≡ from }
 {
-    Walk::new(LinkedTo { links, load: a }, from, end)
+    MembersInOrder::new(LinkedTo { links, load: a }, from, end)
 }

@@ -1,4 +1,4 @@
--- What the iterator's methods give of a walk that is reliable.
+-- What the methods of an iterator give on the members of a set that came from its making.
 use Rattle.std.proofs.Common.{◌≡◌, ℕ, zero, suc, ◌+◌, ◌-◌, ◌<◌, ◌≤◌, Bool, true, false, cond, ◌&&◌, List, [], ◌∷◌, length, Some, None, Option, sym, refl, ap, ◌∙◌, subst, ⊎_elim, add-zero, add-one, arith}
 use Rattle.std.proofs.lemmas.Bool.{cases_eq, cases_lt}
 use Rattle.std.proofs.lemmas.Iterator.{YieldsList}
@@ -7,9 +7,9 @@ use Rattle.std.specs.Option.{option_map}
 use Rattle.std.proofs.lemmas.Iterator.Splits.{YieldsList-from_shown_while}
 use Rattle.std.specs.List.{filter, find, range_with_len}
 use Rattle.graph.specs.Graph.{Graph, Simple, First, Next, count}
-use Rattle.links.specs.declared.walk.Walk.{Walk}
-use Rattle.links.specs.declared.walk.LinkedTo.{LinkedTo}
-use Rattle.links.specs.Walks.{Walks, NextBelow, Over}
+use Rattle.links.specs.declared.members.MembersInOrder.{MembersInOrder}
+use Rattle.links.specs.declared.members.LinkedTo.{LinkedTo}
+use Rattle.links.specs.InOrder.{GivesNext, NextBelow, Over}
 
 -- the numbers from `from` on and below `end` that pass the test
 abbrev pub members : (ℕ → Bool) → ℕ → ℕ → List ℕ
@@ -36,25 +36,25 @@ first_passes test from (suc n) x l first =
     (first_passes test (from + 1) n x (omega arith) (record { past = omega (arith, first.past, ne); hit = first.hit; before = λ j m k. first.before j (omega arith) k })))
     (cases_eq from x)
 
--- ---- a walk
+-- ---- the members of a set
 
-pub YieldsList-from_walk : {S : Type 0} (reliable : S → Type 0) (member : S → ℕ → Bool) (s : Walk S) → reliable s.set → YieldsList (Walks reliable member) (λ x. x) s (members (member s.set) s.from s.end)
-YieldsList-from_walk {S} reliable member =
-    YieldsList-from_shown_while (Walks reliable member) (λ x. x) (λ s. members (member s.set) s.from s.end) (λ s. reliable s.set)
+pub YieldsList-from_members : {S : Type 0} (reliable : S → Type 0) (member : S → ℕ → Bool) (s : MembersInOrder S) → reliable s.set → YieldsList (GivesNext reliable member) (λ x. x) s (members (member s.set) s.from s.end)
+YieldsList-from_members {S} reliable member =
+    YieldsList-from_shown_while (GivesNext reliable member) (λ x. x) (λ s. members (member s.set) s.from s.end) (λ s. reliable s.set)
     (λ s t made gives. ap length (none_pass (member s.set) s.from (s.end - s.from) (λ j l m. gives.next made j l (omega arith))))
     (λ s x t made gives.
     let end : s.from + (s.end - s.from) - (x + 1) ≡ s.end - (x + 1) = omega (arith, gives.within) in
-    subst (λ (u : Walk S). reliable u.set × (members (member s.set) s.from s.end ≡ x ∷ members (member u.set) u.from u.end)) (sym gives.after)
+    subst (λ (u : MembersInOrder S). reliable u.set × (members (member s.set) s.from s.end ≡ x ∷ members (member u.set) u.from u.end)) (sym gives.after)
     (made, first_passes (member s.set) s.from (s.end - s.from) x (omega (arith, gives.within)) (gives.next made) ∙ ap (λ (n : ℕ). x ∷ filter (member s.set) (range_with_len (x + 1) n)) end))
 
 -- the loads that are linked to a, from `from` on and below `end`
-pub YieldsList-from_linked_loads : {L : Type 0} (graph : L → Graph) (made : L → Type 0) (links : L) (a from end : ℕ) (w : Walk (LinkedTo L)) → Over links a end w → w.from ≡ from → made links
-    → YieldsList (Walks (λ (s : LinkedTo L). made s.links.now) (λ s. (graph s.links.now).linked s.load)) (λ x. x) w (members ((graph links).linked a) from end)
+pub YieldsList-from_linked_loads : {L : Type 0} (graph : L → Graph) (made : L → Type 0) (links : L) (a from end : ℕ) (w : MembersInOrder (LinkedTo L)) → Over links a end w → w.from ≡ from → made links
+    → YieldsList (GivesNext (λ (s : LinkedTo L). made s.links.now) (λ s. (graph s.links.now).linked s.load)) (λ x. x) w (members ((graph links).linked a) from end)
 YieldsList-from_linked_loads {L} graph made links a from end w over begins m =
     let found : made w.set.links.now = subst made (sym over.links_are) m in
     let same : members ((graph w.set.links.now).linked w.set.load) w.from w.end ≡ members ((graph links).linked a) from end = rw (over.links_are, over.load_is, begins, over.end_is) refl in
-    subst (YieldsList (Walks (λ (s : LinkedTo L). made s.links.now) (λ s. (graph s.links.now).linked s.load)) (λ x. x) w) same
-    (YieldsList-from_walk (λ (s : LinkedTo L). made s.links.now) (λ s. (graph s.links.now).linked s.load) w found)
+    subst (YieldsList (GivesNext (λ (s : LinkedTo L). made s.links.now) (λ s. (graph s.links.now).linked s.load)) (λ x. x) w) same
+    (YieldsList-from_members (λ (s : LinkedTo L). made s.links.now) (λ s. (graph s.links.now).linked s.load) w found)
 
 -- ---- two tests, one after the other
 

@@ -1,7 +1,9 @@
-// What is written into memory that the caller lends.
-ghost use Rattle.links.specs.Outputs.{Writes};
+//! What is written at the start of an output, which is memory that the caller lends.
+#![tactic(auto)]
 
-use crate::{Layer, Refusal, Refused};
+ghost use Rattle.outputs.specs.Outputs.{Writes};
+
+use links::{Layer, Refusal, Refused};
 
 /// Writes bytes at the start of an output, and answers how many they are. The stream refuses an
 /// output that is too short with 14, and leaves it as it was.

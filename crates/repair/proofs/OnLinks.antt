@@ -5,7 +5,7 @@ use Rattle.rules.specs.Repair.{Ranking}
 use Rattle.rules.specs.Threshold.{threshold}
 use Rattle.tables.specs.Changes.{OfLinks}
 use Rattle.repair.specs.declared.Repair.{Repair}
-use Rattle.repair.specs.Book.{OnLinks}
+use Rattle.repair.specs.OnLinks.{OnLinks}
 
 pub on_links : {L R : Type 0} (made : L → Type 0) (graph : L → Graph) (before : R → Ranking) (Holds : Ranking → ℕ → Graph → Type 0) (r : Repair L R) (links : L) (ranking : R) (limit : ℕ) →
     r.links.now ≡ links → r.ranking.now ≡ ranking → r.limit ≡ limit → OnLinks made graph before r Holds → OfLinks (made links) (graph links) (Holds (before ranking) (threshold limit))

@@ -1,10 +1,10 @@
-//! A walk over the free loads that a load is linked to.
+//! The free loads that a load is linked to, in rising order.
 ghost use Rattle.std.specs.Prelude.{◌≡◌};
 ghost use Rattle.tables.specs.Views.{free_linked};
-ghost use Rattle.tables.specs.Walks.{OverFree};
+ghost use Rattle.tables.specs.FreeLoads.{OverFree};
 
 use crate::Tables;
-use links::walk::{Rising, Walk};
+use links::members::{MembersInOrder, NextMember};
 
 /// The free loads that a load is linked to, as a set that can be asked for its next member.
 #[derive(Clone, Copy)]
@@ -13,7 +13,7 @@ pub struct FreeLinked<'a> {
     load: usize,
 }
 
-impl Rising for FreeLinked<'_> {
+impl NextMember for FreeLinked<'_> {
     ghost member = { λ s. free_linked s.tables.now s.load };
 
     ghost reliable = { λ _. Unit {0} };
@@ -24,13 +24,13 @@ impl Rising for FreeLinked<'_> {
 }
 
 impl Tables {
-    /// A walk over the free loads that `a` is linked to, in rising order; over none where `a` is
-    /// not below 256. Each step looks at up to four words.
-    pub fn free_loads(&self, a: usize) -> Walk<FreeLinked<'_>>
+    /// The free loads that `a` is linked to, in rising order; none where `a` is not below 256.
+    /// Each step looks at up to four words.
+    pub fn free_loads(&self, a: usize) -> MembersInOrder<FreeLinked<'_>>
         ensures over { OverFree self.now a result }
         ensures begins { result.from ≡ 0 }
     {
-        Walk::new(
+        MembersInOrder::new(
             FreeLinked {
                 tables: self,
                 load: a,

@@ -4,7 +4,7 @@ use Rattle.std.proofs.lemmas.Iterator.Consumers.{YieldsList-at, YieldsList-from_
 use Rattle.std.proofs.lemmas.List.Sums.{length-filter}
 use Rattle.tables.specs.declared.Record.{Record}
 use Rattle.tables.proofs.Matched.{matched_listed}
-use Rattle.tables.proofs.Tables.matched.Goals as goal
+use Rattle.tables.proofs.Tables.matched_count.Goals as goal
 
 pub returns : goal.returns
 returns c =

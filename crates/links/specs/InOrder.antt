@@ -1,28 +1,28 @@
--- Walks over numbers in rising order.
+-- The members of a set, asked for one by one in rising order.
 use Rattle.std.specs.Prelude.{◌≡◌, ℕ, ◌+◌, ◌<◌, ◌≤◌, Bool, false, Option, MatchOption, Some, None}
 use Rattle.graph.specs.Graph.{First}
-use Rattle.links.specs.declared.walk.Walk.{Walk}
-use Rattle.links.specs.declared.walk.LinkedTo.{LinkedTo}
+use Rattle.links.specs.declared.members.MembersInOrder.{MembersInOrder}
+use Rattle.links.specs.declared.members.LinkedTo.{LinkedTo}
 
 -- the smallest number at or above `from` and below `end` that passes the test, if there is one
 abbrev pub NextBelow : (ℕ → Bool) → ℕ → ℕ → Option ℕ → Type 0
 NextBelow test from end r =
     MatchOption r ((j : ℕ) → from ≤ j → j < end → test j ≡ false) (λ k. First test from k)
 
--- where a walk goes on, once it gave r
+-- where to ask next, once r was given
 abbrev pub past : ℕ → Option ℕ → ℕ
 past from None = from
 past from (Some x) = x + 1
 
--- a step of a walk s answers r and leaves the walk t
-pub record Walks {S : Type 0} (reliable : S → Type 0) (member : S → ℕ → Bool)
-    (s : Walk S) (r : Option ℕ) (t : Walk S) : Type 0 where
+-- the iterator s gives the next member, r, and goes on as t
+pub record GivesNext {S : Type 0} (reliable : S → Type 0) (member : S → ℕ → Bool)
+    (s : MembersInOrder S) (r : Option ℕ) (t : MembersInOrder S) : Type 0 where
   pub after : t ≡ record { set = s.set; from = past s.from r; end = s.end }
   pub within : MatchOption r (Unit {0}) (λ x. (s.from ≤ x) × (x < s.end))
   pub next : reliable s.set → NextBelow (member s.set) s.from s.end r
 
--- the walk w goes over the loads below `end` that are linked to a
-pub record Over {L : Type 0} (links : L) (a end : ℕ) (w : Walk (LinkedTo L)) : Type 0 where
+-- the iterator w gives the loads below `end` that are linked to a
+pub record Over {L : Type 0} (links : L) (a end : ℕ) (w : MembersInOrder (LinkedTo L)) : Type 0 where
   pub links_are : w.set.links.now ≡ links
   pub load_is : w.set.load ≡ a
   pub end_is : w.end ≡ end
