@@ -1,6 +1,7 @@
 -- Graphs on the loads below a size, and what is counted of them.
 use Rattle.std.specs.Prelude.{◌≡◌, ℕ, zero, suc, ◌+◌, ◌<◌, ◌≤◌, Bool, true, false, cond, not, ◌&&◌}
 use Rattle.std.specs.Prelude.{◌||◌, Option, MatchOption, ◌==◌}
+use Rattle.graph.specs.declared.TheConstants.{MOST_LOADS}
 
 -- which loads below `size` are linked
 pub record Graph : Type 0 where
@@ -10,7 +11,7 @@ pub record Graph : Type 0 where
 -- at most 256 loads; a link joins two different loads, has no direction, and no number past the
 -- size has one
 pub record Simple (g : Graph) : Type 0 where
-  pub small : g.size ≤ 256
+  pub small : g.size ≤ MOST_LOADS
   pub loopless : (a : ℕ) → g.linked a a ≡ false
   pub symmetric : (a b : ℕ) → g.linked a b ≡ g.linked b a
   pub below : (a b : ℕ) → g.linked a b ≡ true → a < g.size

@@ -8,6 +8,9 @@ ghost use Rattle.graph.specs.Approximation.{ApproximationRatio, TwoThirds};
 ghost use Rattle.graph.specs.Changes.{LinksCounted};
 ghost use Rattle.graph.specs.Theorems.{PathsOfOne, PathsOfThree, PathsAreOdd};
 
+/// The most loads that a graph has.
+pub const MOST_LOADS: usize = 256;
+
 /// The augmenting paths of one link are the links between two free loads.
 pub fn paths_of_one()
     ensures { PathsOfOne }

@@ -2,6 +2,8 @@
 use Rattle.std.specs.Prelude.{◌≡◌, ℕ, ◌+◌, ◌-◌, ◌<◌, ◌≤◌, Bool, true, cond, ◌||◌, [], Some, None}
 use Rattle.std.specs.Prelude.{Option, Result, ◌==◌, nat_le, nat_lt}
 use Rattle.graph.specs.Graph.{Graph, link_count, added, removed}
+use Rattle.graph.specs.declared.TheConstants.{MOST_LOADS}
+use Rattle.links.specs.declared.TheConstants.{MOST_LINKS}
 use Rattle.links.specs.declared.refusal.Layer.{Layer}
 use Rattle.links.specs.declared.refusal.Layer.TheVariants.{Book}
 use Rattle.links.specs.declared.refusal.Refused.{Refused}
@@ -17,7 +19,7 @@ pub record Ledger : Type 0 where
 
 -- what holds of every book at all times
 pub record Bounded (g : Graph) (l : Ledger) : Type 0 where
-  pub limit_bound : l.limit ≤ 32640
+  pub limit_bound : l.limit ≤ MOST_LINKS
   pub within : link_count g ≤ l.limit
   pub barred_symmetric : (a b : ℕ) → l.barred a b ≡ l.barred b a
   pub barred_below : (a b : ℕ) → l.barred a b ≡ true → a < g.size
@@ -54,11 +56,11 @@ unless_within most refused n otherwise = cond (n == 0 || nat_lt most n) refused 
 
 -- 1: not 1 to 256 loads
 abbrev pub unless_size : ℕ → Option Reason → Option Reason
-unless_size = unless_within 256 (by_book 1)
+unless_size = unless_within MOST_LOADS (by_book 1)
 
 -- 2: not a limit of 1 to 32640 links
 abbrev pub unless_limit : ℕ → Option Reason → Option Reason
-unless_limit = unless_within 32640 (by_book 2)
+unless_limit = unless_within MOST_LINKS (by_book 2)
 
 -- 4: not two loads; 5: the same load twice
 abbrev pub unless_two_of : Layer → ℕ → ℕ → ℕ → Option Reason → Option Reason
