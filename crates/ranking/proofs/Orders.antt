@@ -10,8 +10,8 @@ by_key_order : (key : ℕ → ℕ) → StrictOrder (by_key key)
 by_key_order key =
     record {
       irreflexive = λ x. grind (arith, nat_tests);
-      one_first = λ x y ne. grind (arith, nat_tests);
       transitive = λ x y z e f. grind (arith, nat_tests);
+      total = λ x y e f. grind (arith, nat_tests);
     }
 
 pub nearer_order : (places : List Place) (a : ℕ) → StrictOrder (nearer places a)

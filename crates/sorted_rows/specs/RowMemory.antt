@@ -1,6 +1,6 @@
 -- Memory in rows of d + 1 numbers, one row for each load.
-use Rattle.std.specs.Prelude.{◌≡◌, ℕ, ◌+◌, ◌*◌, ◌<◌, ◌≤◌, cond, List, [], ◌++◌, length, take, drop}
-use Rattle.std.specs.Prelude.{nat_lt}
+use Rattle.std.specs.Prelude.{◌≡◌, ℕ, ◌+◌, ◌*◌, ◌<◌, ◌≤◌, List, [], ◌++◌, length, take, drop}
+use Rattle.std.specs.Prelude.{if◌then◌else◌, nat_lt}
 use Rattle.sorted_rows.specs.Row.{entries, Able, changed}
 use Rattle.sorted_rows.specs.declared.row.Change.{Change}
 
@@ -10,7 +10,7 @@ row_of d memory a = take (d + 1) (drop (a * (d + 1)) memory)
 
 -- the loads in row a; none from n on
 abbrev pub loads_of_row : ℕ → ℕ → List ℕ → ℕ → List ℕ
-loads_of_row n d memory a = cond (nat_lt a n) (entries (row_of d memory a)) []
+loads_of_row n d memory a = if nat_lt a n then entries (row_of d memory a) else []
 
 -- the memory with another row a
 unfoldable pub with_row : ℕ → List ℕ → ℕ → List ℕ → List ℕ

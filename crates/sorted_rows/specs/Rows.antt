@@ -1,9 +1,10 @@
 -- A link book in rows of d + 1 numbers, one row for each load.
-use Rattle.std.specs.Prelude.{◌≡◌, ℕ, ◌+◌, ◌-◌, ◌*◌, ◌<◌, ◌≤◌, true, false, cond, ◌&&◌, List}
-use Rattle.std.specs.Prelude.{length, drop, is_ok, Some, None, Option, Result, nat_lt, slice_index}
+use Rattle.std.specs.Prelude.{◌≡◌, ℕ, ◌+◌, ◌-◌, ◌*◌, ◌<◌, ◌≤◌, true, false, ◌&&◌, List}
+use Rattle.std.specs.Prelude.{if◌then◌else◌, length, drop, is_ok, Some, None, Option, Result, nat_lt, slice_index}
 use Rattle.std.specs.Borrow.{GName}
 use Rattle.graph.specs.Graph.{Graph, link_count, no_links}
-use Rattle.links.specs.Books.{Ledger, by_book, unless_within, unless_size, unless_limit}
+use Rattle.links.specs.Books.{Ledger, fresh_ledger, by_book, unless_within, unless_size}
+use Rattle.links.specs.Books.{unless_limit}
 use Rattle.links.specs.Memory.{Cleared}
 use Rattle.links.specs.Refusals.{Reason}
 use Rattle.graph.specs.declared.TheConstants.{MOST_LOADS}
@@ -22,7 +23,7 @@ ledger_of n d limit count memory =
     record {
       limit = limit;
       barred = λ _ _. false;
-      spare = λ a. cond (nat_lt a n) (d - slice_index (row_of d memory a) 0) 0;
+      spare = λ a. if nat_lt a n then d - slice_index (row_of d memory a) 0 else 0;
       room = limit - count;
     }
 
@@ -80,22 +81,13 @@ checking n d limit memory =
     unless_size n
     (unless_limit limit
     (unless_within 255 (by_book 2) d
-    (cond (nat_lt memory (n * (d + 1))) (by_book 3) None)))
-
-abbrev pub fresh : ℕ → ℕ → ℕ → Ledger
-fresh n d limit =
-    record {
-      limit = limit;
-      barred = λ _ _. false;
-      spare = λ a. cond (nat_lt a n) d 0;
-      room = limit;
-    }
+    (if nat_lt memory (n * (d + 1)) then by_book 3 else None)))
 
 -- a book without links
 pub record Fresh (n d limit : ℕ) (s : SortedRows) : Type 0 where
   pub row_limit : s.row_limit ≡ d
   pub graph : rows_graph s ≡ no_links n
-  pub ledger : rows_ledger s ≡ fresh n d limit
+  pub ledger : rows_ledger s ≡ fresh_ledger n d limit
 
 -- what is made in memory that held `before`: the book asked for, or, where there is a reason not to
 -- make it, one of no loads
