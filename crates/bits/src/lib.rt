@@ -5,7 +5,7 @@
 ghost use Rattle.std.specs.Prelude.{◌≡◌, ℕ, ◌%◌, ◌≤◌, ◌<◌, ◌*◌, ◌^◌, not, ◌&&◌, ◌||◌, ◌==◌};
 ghost use Rattle.std.specs.Prelude.{if◌then◌else◌, nat_eq, length, IfSome};
 ghost use Rattle.graph.specs.Graph.{count, Next, NextBelow};
-ghost use Rattle.bits.specs.Bit.{bit, NextBit};
+ghost use Rattle.bits.specs.Bit.{bit};
 ghost use Rattle.bits.specs.Words.{member};
 
 /// Whether the bit at `place`, modulo 64, is 1.
@@ -32,7 +32,8 @@ pub fn without_bit(word: u64, place: usize) -> u64
 /// The place of the lowest bit at or above `from` that is 1; `None` where there is none, as from
 /// 64 on.
 pub fn next_bit(word: u64, from: usize) -> Option<usize>
-    ensures { NextBit word from result }
+    ensures next { Next (bit word) from result }
+    ensures bound { IfSome result (λ j. j < 64) }
 {
     if from >= 64 {
         return None;

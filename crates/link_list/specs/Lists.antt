@@ -1,6 +1,6 @@
 -- The graph of a list of entries, and when a list is refused.
 use Rattle.std.specs.Prelude.{◌≡◌, ℕ, zero, suc, ◌<◌, ◌≤◌, Bool, true, false, ◌||◌, List, [], ◌∷◌}
-use Rattle.std.specs.Prelude.{length, Some, None, Option}
+use Rattle.std.specs.Prelude.{length, Some, None, Option, option_map}
 use Rattle.graph.specs.Graph.{Graph, no_links, lowest_passing}
 use Rattle.graph.specs.declared.TheConstants.{MOST_LOADS}
 use Rattle.links.specs.Books.{unless_size}
@@ -33,9 +33,9 @@ list_graph l = graph_of l.size l.entries.now
 abbrev pub ListMade : LinkList → Type 0
 ListMade l = Sound l.size l.entries.now
 
+-- 15: the entry with this index, if there is one
 abbrev pub bad_entry : Option ℕ → Option Reason
-bad_entry None = None
-bad_entry (Some index) = Some (record { number = 15; values = index ∷ []; layer = Book })
+bad_entry = option_map (λ index. record { number = 15; values = index ∷ []; layer = Book })
 
 -- the first reason to refuse these entries: the number of loads, then the first entry that is
 -- out of order or out of bounds

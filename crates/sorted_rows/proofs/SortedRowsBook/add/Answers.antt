@@ -2,8 +2,7 @@ use Rattle.std.proofs.Common.{false, ◌∙◌, arith, rules}
 use Rattle.links.proofs.Reasons.{adding_none, adding_left, add_refused, add_not_open}
 use Rattle.sorted_rows.specs.declared.row.Change.TheVariants.{Insert}
 use Rattle.sorted_rows.specs.Rows.{rows_graph, rows_ledger, RowsMade}
-use Rattle.sorted_rows.proofs.BookAnswers.{stands_after}
-use Rattle.sorted_rows.proofs.BookChange.{after_adding}
+use Rattle.sorted_rows.proofs.LinkChange.{after_adding, stands_after}
 use Rattle.sorted_rows.proofs.SortedRowsBook.add.Goals as goal
 
 pub returns-in_err-check_open-clause-book : goal.returns-in_err-check_open-clause-book
