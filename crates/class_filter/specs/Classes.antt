@@ -1,5 +1,5 @@
 -- Classes of loads, and what barred pairs of classes leave of a graph and of a ledger.
-use Rattle.std.specs.Prelude.{ℕ, min, Bool, not, ◌&&◌, ◌||◌, if◌then◌else◌, List, Option, Some}
+use Rattle.std.specs.Prelude.{ℕ, min, Bool, not, ◌&&◌, ◌||◌, if◌then◌else◌, List, Option}
 use Rattle.std.specs.Prelude.{None, Result, OnOk, nat_lt, slice_index}
 use Rattle.graph.specs.Graph.{Graph, added, removed}
 use Rattle.graph.specs.declared.TheConstants.{MOST_LOADS}

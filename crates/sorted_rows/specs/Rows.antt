@@ -1,5 +1,5 @@
 -- A book of links in rows of d + 1 numbers, one row for each load.
-use Rattle.std.specs.Prelude.{◌≡◌, ℕ, ◌+◌, ◌-◌, ◌*◌, ◌<◌, ◌≤◌, true, false, ◌&&◌, List}
+use Rattle.std.specs.Prelude.{◌≡◌, ℕ, ◌-◌, ◌<◌, ◌≤◌, true, false, ◌&&◌, List}
 use Rattle.std.specs.Prelude.{if◌then◌else◌, length, drop, is_ok, Some, None, Option, Result, nat_lt, slice_index}
 use Rattle.std.specs.Borrow.{GName}
 use Rattle.graph.specs.Graph.{Graph, link_count, no_links}

@@ -1,4 +1,4 @@
-use Rattle.std.proofs.Common.{◌≡◌, ℕ, ◌+◌, ◌<◌, true, false, None, sym, ap, ◌∙◌, subst, arith, rules}
+use Rattle.std.proofs.Common.{◌≡◌, ℕ, ◌+◌, ◌<◌, true, None, sym, ap, ◌∙◌, subst, arith, rules}
 use Rattle.links.specs.Books.{adding, unless_room}
 use Rattle.links.specs.declared.tally.Tally.{Tally}
 use Rattle.links.proofs.Reasons.{Addable, adding_none, add_refused, add_not_open}
@@ -18,7 +18,7 @@ returns-in_err-check_room-clause-book c =
     add_refused matrix_graph MatrixMade matrix_ledger c.args.self.now c.args.a c.args.b
     c.in_err-check_room.field-0.0 c.from_residual-in_err-check_room.result c.from_residual-in_err-check_room.ensures.1
     (λ made. adding_open c.args.self.now made c.args.a c.args.b (c.in_ok-check_open.ensures made).0
-        ∙ ap (λ (room : ℕ). unless_room room None) (sym (c.room.ensures made)) ∙ c.in_err-check_room.ensures)
+    ∙ ap (λ (room : ℕ). unless_room room None) (sym (c.room.ensures made)) ∙ c.in_err-check_room.ensures)
 
 pub returns : goal.returns
 returns c =

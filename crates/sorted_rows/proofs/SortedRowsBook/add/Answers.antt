@@ -1,4 +1,4 @@
-use Rattle.std.proofs.Common.{false, ◌∙◌, arith, rules}
+use Rattle.std.proofs.Common.{◌∙◌, arith, rules}
 use Rattle.links.proofs.Reasons.{adding_none, adding_left, add_refused, add_not_open}
 use Rattle.sorted_rows.specs.declared.row.Change.TheVariants.{Insert}
 use Rattle.sorted_rows.specs.Rows.{rows_graph, rows_ledger, RowsMade}
@@ -15,7 +15,7 @@ returns-in_err-check_left-clause-book c =
     add_refused rows_graph RowsMade rows_ledger c.args.self.now c.args.a c.args.b
     c.in_err-check_left.field-0.0 c.from_residual-in_err-check_left.result c.from_residual-in_err-check_left.ensures.1
     (λ made. adding_left (rows_graph c.args.self.now) (rows_ledger c.args.self.now) c.args.a c.args.b _ _ _ (c.in_ok-check_open.ensures made).0 (c.spare.ensures made) (c.spare-2.ensures made) (c.room.ensures made)
-        ∙ c.in_err-check_left.ensures)
+    ∙ c.in_err-check_left.ensures)
 
 pub returns : goal.returns
 returns c =
