@@ -5,8 +5,8 @@ ghost use Rattle.std.specs.Prelude.{◌≡◌, ◌≤◌, true, false, ◌&&◌,
 ghost use Rattle.links.specs.Books.{Adds, Removes};
 ghost use Rattle.links.specs.Refusals.{Answers};
 ghost use Rattle.bit_matrix.specs.Matrix.{row_words, is_place, is_link_place, held, matrix_row};
-ghost use Rattle.bit_matrix.specs.Matrix.{matrix_graph, matrix_ledger, MatrixMade, rewritten, checking};
-ghost use Rattle.bit_matrix.specs.Matrix.{Making, MatrixFixed, matrix_fixed, Written};
+ghost use Rattle.bit_matrix.specs.Matrix.{matrix_graph, matrix_ledger, MatrixMade, rewritten};
+ghost use Rattle.bit_matrix.specs.Matrix.{checking, Making, MatrixFixed, matrix_fixed, Written};
 
 /// What holds of every made bit matrix.
 pub mod theorems;

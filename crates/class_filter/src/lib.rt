@@ -1,13 +1,13 @@
-//! A link book seen through classes of loads.
+//! A book that hides the links between loads of barred classes.
 #![tactic(auto)]
 
 ghost use Rattle.std.specs.Prelude.{◌≡◌, ℕ, ◌<◌, ◌≤◌, false, OnOk, slice_index};
 ghost use Rattle.graph.specs.Graph.{count};
 ghost use Rattle.links.specs.Books.{Stands, Adds, Removes};
 ghost use Rattle.links.specs.Refusals.{Answers};
-ghost use Rattle.class_filter.specs.Classes.{class_of, hidden, filtered, filtered_ledger, filter_graph};
-ghost use Rattle.class_filter.specs.Classes.{FilterMade, filter_ledger, FilterFixed, filter_fixed};
-ghost use Rattle.class_filter.specs.Classes.{unless_visible, AddedBelow, RemovedBelow};
+ghost use Rattle.class_filter.specs.Classes.{class_of, hidden, filtered, filtered_ledger};
+ghost use Rattle.class_filter.specs.Classes.{filter_graph, FilterMade, filter_ledger, FilterFixed};
+ghost use Rattle.class_filter.specs.Classes.{filter_fixed, unless_visible, AddedBelow, RemovedBelow};
 
 use bits::bit_of;
 use links::members::{linked_loads, linked_loads_from};

@@ -1,4 +1,4 @@
-//! Links for asking only, in a list of entries that the caller lends.
+//! Links in a list of entries that the caller lends. They can be asked for, and not changed.
 #![tactic(auto)]
 
 ghost use Rattle.std.specs.Prelude.{◌≡◌, length};
@@ -15,7 +15,9 @@ use strict_order::first_unordered;
 /// b.
 #[derive(Clone, Copy, PartialEq, Eq, PartialOrd, Ord, Debug)]
 pub struct Entry {
+    /// The lower load.
     pub a: u16,
+    /// The higher load.
     pub b: u16,
 }
 
@@ -79,7 +81,10 @@ pub struct LinkList<'a> {
 }
 
 impl<'a> LinkList<'a> {
-    /// Whether a list can be made of these entries, for the loads below `size`.
+    /// Whether a list can be made of these entries, for the loads below `size`. The book refuses a
+    /// size that is not 1 to 256 with 1. Then it refuses with 15, and the index of it, the first
+    /// entry that does not come after the entry before it, or has not a < b < size. Looks at every
+    /// entry, and changes nothing.
     pub fn check(size: usize, entries: &[Entry]) -> Result<(), Refused>
         ensures { Answers (checking size entries.now) result (λ _. Sound size entries.now) }
     {
@@ -90,7 +95,8 @@ impl<'a> LinkList<'a> {
         }
     }
 
-    /// The list of these entries, or a list of no loads where the check refuses them.
+    /// The list of these entries, which are not copied. Where `check` would refuse them, the list
+    /// has no loads and no entries.
     pub fn new(size: usize, entries: &'a [Entry]) -> LinkList<'a>
         ensures made { ListMade result }
         ensures listing { Listing (checking size entries.now) size entries.now result }
@@ -114,14 +120,17 @@ impl Links for LinkList<'_> {
         self.size
     }
 
+    /// Whether a and b are linked. Looks at the entries up to that link.
     fn linked(&self, a: usize, b: usize) -> bool {
         self.entries.iter().any(|link| link.joins(a, b))
     }
 
+    /// The number of links of a. Looks at every entry.
     fn degree(&self, a: usize) -> usize {
         self.entries.iter().filter(|link| link.touches(a)).count()
     }
 
+    /// The smallest load at or above `from` that is linked to a. Looks at every entry.
     fn next_linked(&self, a: usize, from: usize) -> Option<usize> {
         self.entries
             .iter()
@@ -129,6 +138,7 @@ impl Links for LinkList<'_> {
             .min()
     }
 
+    /// The number of links, which is that of the entries.
     fn link_count(&self) -> usize {
         self.entries.len()
     }

@@ -17,7 +17,8 @@ pub record GivesNext {S : Type 0} (reliable : S → Type 0) (member : S → ℕ 
   pub next : reliable s.set → NextBelow (member s.set) s.from s.end r
 
 -- the iterator w gives the loads below `end` that are linked to a
-pub record Over {L : Type 0} (links : L) (a end : ℕ) (w : MembersInOrder (LinkedTo L)) : Type 0 where
+pub record Over {L : Type 0} (links : L) (a end : ℕ)
+    (w : MembersInOrder (LinkedTo L)) : Type 0 where
   pub links_are : w.set.links.now ≡ links
   pub load_is : w.set.load ≡ a
   pub end_is : w.end ≡ end

@@ -72,8 +72,8 @@ impl<S: NextMember + Drop> Iterator for MembersInOrder<S> {
     }
 }
 
-/// The loads below `end` that are linked to a, in rising order. Each step asks for the next linked load
-/// once.
+/// The loads below `end` that are linked to a, in rising order. Each step asks once for the next
+/// linked load.
 pub fn linked_loads<L: Links>(links: &L, a: usize, end: usize) -> MembersInOrder<LinkedTo<'_, L>>
     ensures over { Over links.now a end result }
     ensures begins { result.from ≡ 0 }

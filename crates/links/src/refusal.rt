@@ -13,7 +13,7 @@ pub enum Refusal {
     SizeOutOfRange,
     /// 2: the link limit or the row limit is outside its range
     LimitOutOfRange,
-    /// 3: memory is too short, a stream is too long, or a table of partners has the wrong length
+    /// 3: too little memory for a book, too many bytes in a stream, or not one claim for each load
     WrongLength,
     /// 4: a number is not below the number of loads
     NoSuchLoad,

@@ -1,5 +1,6 @@
 -- What is written at the start of an output.
-use Rattle.std.specs.Prelude.{◌≡◌, ℕ, if◌then◌else◌, List, ◌++◌, length, drop, None, Option, Result, nat_lt}
+use Rattle.std.specs.Prelude.{◌≡◌, ℕ, if◌then◌else◌, List, ◌++◌, length, drop, None, Option, Result}
+use Rattle.std.specs.Prelude.{nat_lt}
 use Rattle.links.specs.declared.refusal.Layer.TheVariants.{Stream}
 use Rattle.links.specs.declared.refusal.Refused.{Refused}
 use Rattle.links.specs.Books.{by}

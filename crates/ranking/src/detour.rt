@@ -7,7 +7,9 @@ use crate::Ranking;
 /// A place on the map, by two coordinates. Each may be any signed 32-bit number.
 #[derive(Clone, Copy, PartialEq, Eq, Debug)]
 pub struct Place {
+    /// The first coordinate.
     pub x: i32,
+    /// The second coordinate.
     pub y: i32,
 }
 

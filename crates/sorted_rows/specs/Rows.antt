@@ -1,6 +1,6 @@
 -- A book of links in rows of d + 1 numbers, one row for each load.
-use Rattle.std.specs.Prelude.{◌≡◌, ℕ, ◌-◌, ◌<◌, ◌≤◌, true, false, ◌&&◌, List}
-use Rattle.std.specs.Prelude.{if◌then◌else◌, length, drop, is_ok, Some, None, Option, Result, nat_lt, slice_index}
+use Rattle.std.specs.Prelude.{◌≡◌, ℕ, ◌-◌, ◌<◌, ◌≤◌, true, false, ◌&&◌, if◌then◌else◌, List, length}
+use Rattle.std.specs.Prelude.{drop, is_ok, Some, None, Option, Result, nat_lt, slice_index}
 use Rattle.std.specs.Borrow.{GName}
 use Rattle.graph.specs.Graph.{Graph, link_count, no_links}
 use Rattle.links.specs.Books.{Ledger, fresh_ledger, by_book, unless_within, unless_size}

@@ -7,8 +7,8 @@ ghost use Rattle.links.specs.Books.{Adds, Removes};
 ghost use Rattle.links.specs.Refusals.{Answers};
 ghost use Rattle.sorted_rows.specs.Row.{row_with, row_without};
 ghost use Rattle.sorted_rows.specs.RowMemory.{BothChanged};
-ghost use Rattle.sorted_rows.specs.Rows.{loads_in_row, rows_graph, rows_ledger, RowsMade, RowsFixed};
-ghost use Rattle.sorted_rows.specs.Rows.{rows_fixed, checking, Making, Written};
+ghost use Rattle.sorted_rows.specs.Rows.{loads_in_row, rows_graph, rows_ledger, RowsMade};
+ghost use Rattle.sorted_rows.specs.Rows.{RowsFixed, rows_fixed, checking, Making, Written};
 
 mod row;
 /// What holds of every made book in rows.

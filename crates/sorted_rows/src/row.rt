@@ -1,8 +1,8 @@
 // Memory in rows of equal length: in each row its count, then that many loads in rising order,
 // then zeros.
 ghost use Rattle.std.specs.Prelude.{◌≡◌, ◌+◌, ◌*◌, ◌≤◌, length};
-ghost use Rattle.sorted_rows.specs.Row.{entries, place, Insertable, row_with, Removable, row_without, Able};
-ghost use Rattle.sorted_rows.specs.Row.{changed};
+ghost use Rattle.sorted_rows.specs.Row.{entries, place, Insertable, row_with, Removable};
+ghost use Rattle.sorted_rows.specs.Row.{row_without, Able, changed};
 ghost use Rattle.sorted_rows.specs.RowMemory.{loads_of_row, RowChanged};
 
 /// What can be done with a load in a row.

@@ -2,8 +2,8 @@
 #![tactic(auto)]
 
 ghost use Rattle.std.specs.Prelude.{◌≡◌, ◌<◌, length, IfSome, MatchOption};
-ghost use Rattle.strict_order.specs.StrictOrder.{Rises, FirstUnordered, StrictTotal, Tied, comes_before};
-ghost use Rattle.strict_order.specs.StrictOrder.{first_break};
+ghost use Rattle.strict_order.specs.StrictOrder.{Rises, FirstUnordered, StrictTotal, Tied};
+ghost use Rattle.strict_order.specs.StrictOrder.{comes_before, first_break};
 
 // The first index whose record does not come before the next.
 fn first_break<T: Ord>(records: &[T]) -> Option<usize>
@@ -16,7 +16,8 @@ fn first_break<T: Ord>(records: &[T]) -> Option<usize>
         .position(|(x, y)| x >= y)
 }
 
-/// The first index whose record does not come after the record before it.
+/// The first index whose record does not come after the record before it; `None` where the records
+/// rise strictly. Compares each two neighbours up to that index.
 pub fn first_unordered<T: Ord>(records: &[T]) -> Option<usize>
     ensures first { MatchOption result (Rises (comes_before T.cmp) records.now)
         (λ i. FirstUnordered (comes_before T.cmp) records.now i) }
