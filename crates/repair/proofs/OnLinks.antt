@@ -1,4 +1,4 @@
--- What a repair does on its book, by the parts that it was made of.
+-- What a repair does on its links, by the parts that it was made of.
 use Rattle.std.proofs.Common.{◌≡◌, ℕ, subst}
 use Rattle.graph.specs.Graph.{Graph}
 use Rattle.rules.specs.Repair.{Ranking}

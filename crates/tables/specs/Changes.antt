@@ -10,7 +10,7 @@ use Rattle.tables.specs.declared.Tables.{Tables}
 use Rattle.tables.specs.Views.{partners_of, degree_of, free_degree_of, free_linked, Agrees}
 use Rattle.tables.specs.Steps.{stepped}
 
--- what holds for the graph of a book, where the book came from its making
+-- what holds for the graph of links that came from their making
 abbrev pub OfLinks : Type 0 → Graph → (Graph → Type 0) → Type 0
 OfLinks made g Holds = made → Simple g → Holds g
 
