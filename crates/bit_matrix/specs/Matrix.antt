@@ -7,6 +7,8 @@ use Rattle.graph.specs.Graph.{Graph, degree, link_count, no_links}
 use Rattle.links.specs.Books.{Ledger, Stands, by_book, unless_size, unless_limit}
 use Rattle.links.specs.Memory.{Cleared}
 use Rattle.links.specs.Refusals.{Reason}
+use Rattle.graph.specs.declared.TheConstants.{MOST_LOADS}
+use Rattle.links.specs.declared.TheConstants.{MOST_LINKS}
 use Rattle.links.specs.declared.tally.Tally.{Tally}
 use Rattle.bits.specs.Bit.{bit}
 use Rattle.bit_matrix.specs.declared.BitMatrix.{BitMatrix}
@@ -64,8 +66,8 @@ matrix_ledger m = ledger m.size m.tally.limit m.tally.count m.words.now
 
 -- what holds of every matrix that came from its making, by its numbers and its words
 pub record Made (n limit count : ℕ) (words : List ℕ) : Type 0 where
-  pub small : n ≤ 256
-  pub limit_bound : limit ≤ 32640
+  pub small : n ≤ MOST_LOADS
+  pub limit_bound : limit ≤ MOST_LINKS
   pub enough : all_words n ≤ length words
   pub loopless : (a : ℕ) → a < n → cell n words a a ≡ false
   pub symmetric : (a b : ℕ) → a < n → b < n → cell n words a b ≡ cell n words b a

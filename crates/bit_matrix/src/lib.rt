@@ -22,7 +22,7 @@ use links::{
 /// word b / 64, at bit b mod 64, where the two are linked. A link is there in both directions, and
 /// the bits of no load are 0. A load may be linked to every other, and no pair is barred. A made
 /// matrix never refuses because a load is full (9).
-#[derive(Drop)]
+#[derive(Debug, Drop)]
 pub struct BitMatrix<'a> {
     // narrow, so that no index of a word overflows
     size: u16,

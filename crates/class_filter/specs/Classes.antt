@@ -2,6 +2,7 @@
 use Rattle.std.specs.Prelude.{ℕ, min, Bool, cond, not, ◌&&◌, ◌||◌, List, Option, Some, None, Result}
 use Rattle.std.specs.Prelude.{OnOk, nat_lt, slice_index}
 use Rattle.graph.specs.Graph.{Graph, added, removed}
+use Rattle.graph.specs.declared.TheConstants.{MOST_LOADS}
 use Rattle.links.specs.declared.refusal.Layer.TheVariants.{Book}
 use Rattle.links.specs.declared.refusal.Refusal.{Refusal}
 use Rattle.links.specs.declared.refusal.Refused.{Refused}
@@ -12,7 +13,7 @@ use Rattle.class_filter.specs.declared.ClassFilter.{ClassFilter}
 
 -- the class of load a: one above 7 counts as 7, and a load that is given none has class 0
 abbrev pub class_of : List ℕ → ℕ → ℕ
-class_of classes a = cond (nat_lt a 256) (min (slice_index classes a) 7) 0
+class_of classes a = cond (nat_lt a MOST_LOADS) (min (slice_index classes a) 7) 0
 
 -- classes i and j are barred where byte i has bit j set, or byte j has bit i set
 unfoldable pub bars_classes : List ℕ → ℕ → ℕ → Bool

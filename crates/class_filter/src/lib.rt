@@ -11,26 +11,26 @@ ghost use Rattle.class_filter.specs.Classes.{unless_visible, AddedBelow, Removed
 
 use bits::bit_of;
 use links::members::{linked_loads, linked_loads_from};
-use links::{Book, Layer, Links, Refusal, Refused, check_two};
+use links::{Book, Layer, Links, MOST_LOADS, Refusal, Refused, check_two};
 
 /// A book with classes given to its loads, and some pairs of classes barred: the links of barred
 /// classes are hidden, and none is added or removed. All else is asked of the book below, whose
 /// limit, spares and room are those of the filter, hidden links counted.
-#[derive(Drop)]
+#[derive(Debug, Drop)]
 pub struct ClassFilter<B> {
     below: B,
     // the class of each load, where one above 7 counts as 7
-    classes: [u8; 256],
+    classes: [u8; MOST_LOADS],
     // classes i and j are barred where byte i has bit j set, or byte j has bit i set
     bars: [u8; 8],
 }
 
 // The first 256 of the classes given, then zeros.
-fn class_table(classes: &[u8]) -> [u8; 256]
-    ensures { (a : ℕ) → a < 256 → slice_index result a ≡ slice_index classes.now a }
+fn class_table(classes: &[u8]) -> [u8; MOST_LOADS]
+    ensures { (a : ℕ) → a < MOST_LOADS → slice_index result a ≡ slice_index classes.now a }
 {
-    let given = classes.len().min(256);
-    let mut table = [0; 256];
+    let given = classes.len().min(MOST_LOADS);
+    let mut table = [0; MOST_LOADS];
     table[0..given].copy_from_slice(&classes[0..given]);
     table
 }
@@ -142,7 +142,7 @@ impl<B: Book> Links for ClassFilter<B> {
     // Each link is counted at its higher load. A book that was not made may tell any size; at 256
     // the sum cannot overflow.
     fn link_count(&self) -> usize {
-        let size = self.below.size().min(256);
+        let size = self.below.size().min(MOST_LOADS);
         (0..size).map(|a| self.count_visible(a, a)).sum()
     }
 }

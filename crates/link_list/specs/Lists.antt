@@ -2,6 +2,7 @@
 use Rattle.std.specs.Prelude.{◌≡◌, ℕ, zero, suc, ◌<◌, ◌≤◌, Bool, true, false, ◌||◌, List, [], ◌∷◌}
 use Rattle.std.specs.Prelude.{length, Some, None, Option}
 use Rattle.graph.specs.Graph.{Graph, no_links}
+use Rattle.graph.specs.declared.TheConstants.{MOST_LOADS}
 use Rattle.links.specs.Books.{unless_size}
 use Rattle.links.specs.Refusals.{Reason}
 use Rattle.links.specs.declared.refusal.Layer.TheVariants.{Book}
@@ -22,7 +23,7 @@ graph_of n es = record { size = n; linked = joined es (length es) }
 
 -- at most 256 loads; each entry is in bounds, and they rise strictly
 pub record Sound (n : ℕ) (es : List Entry) : Type 0 where
-  pub small : n ≤ 256
+  pub small : n ≤ MOST_LOADS
   pub bounds : (k : ℕ) → k < length es → in_bounds n (entry_at es k) ≡ true
   pub rises : Rises entry_before es
 

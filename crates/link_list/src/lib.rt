@@ -71,7 +71,7 @@ fn first_out_of_bounds(size: usize, entries: &[Entry]) -> Option<usize>
 }
 
 /// The links of the loads below a size, as entries that rise strictly.
-#[derive(Clone, Copy)]
+#[derive(Clone, Copy, Debug)]
 pub struct LinkList<'a> {
     size: usize,
     entries: &'a [Entry],

@@ -6,10 +6,10 @@ use Rattle.std.proofs.lemmas.Iterator.Adapters.{option_map_id}
 use Rattle.std.specs.Option.{option_map}
 use Rattle.std.proofs.lemmas.Iterator.Splits.{YieldsList-from_shown_while}
 use Rattle.std.specs.List.{filter, find, range_with_len}
-use Rattle.graph.specs.Graph.{Graph, Simple, First, Next, count}
+use Rattle.graph.specs.Graph.{Graph, Simple, First, Next, NextBelow, count}
 use Rattle.links.specs.declared.members.MembersInOrder.{MembersInOrder}
 use Rattle.links.specs.declared.members.LinkedTo.{LinkedTo}
-use Rattle.links.specs.InOrder.{GivesNext, NextBelow, Over}
+use Rattle.links.specs.InOrder.{GivesNext, Over}
 
 -- the numbers from `from` on and below `end` that pass the test
 abbrev pub members : (ℕ → Bool) → ℕ → ℕ → List ℕ

@@ -1,13 +1,8 @@
 -- The members of a set, asked for one by one in rising order.
-use Rattle.std.specs.Prelude.{◌≡◌, ℕ, ◌+◌, ◌<◌, ◌≤◌, Bool, false, Option, MatchOption, Some, None}
-use Rattle.graph.specs.Graph.{First}
+use Rattle.std.specs.Prelude.{◌≡◌, ℕ, ◌+◌, ◌<◌, ◌≤◌, Bool, Option, MatchOption, Some, None}
+use Rattle.graph.specs.Graph.{NextBelow}
 use Rattle.links.specs.declared.members.MembersInOrder.{MembersInOrder}
 use Rattle.links.specs.declared.members.LinkedTo.{LinkedTo}
-
--- the smallest number at or above `from` and below `end` that passes the test, if there is one
-abbrev pub NextBelow : (ℕ → Bool) → ℕ → ℕ → Option ℕ → Type 0
-NextBelow test from end r =
-    MatchOption r ((j : ℕ) → from ≤ j → j < end → test j ≡ false) (λ k. First test from k)
 
 -- where to ask next, once r was given
 abbrev pub past : ℕ → Option ℕ → ℕ

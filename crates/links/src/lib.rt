@@ -13,12 +13,16 @@ mod refusal;
 mod tally;
 pub mod members;
 
+pub use graph::MOST_LOADS;
 pub use refusal::{Layer, Refusal, Refused};
 pub use tally::Tally;
 
+/// The highest limit that a book can have: 32,640, a link for each two of 256 loads.
+pub const MOST_LINKS: usize = MOST_LOADS * (MOST_LOADS - 1) / 2;
+
 /// What a book has left for one link: how many links each of its loads may still take, and how
 /// many the book may.
-#[derive(Clone, Copy)]
+#[derive(Clone, Copy, PartialEq, Eq, Debug)]
 pub struct Allowance {
     /// The spare of the one load.
     pub spare_a: usize,
@@ -122,14 +126,14 @@ pub fn check_within(n: usize, most: usize, refusal: Refusal) -> Result<(), Refus
 pub fn check_size(size: usize) -> Result<(), Refused>
     ensures { Answers (unless_size size None) result (λ _. Unit {0}) }
 {
-    check_within(size, 256, Refusal::SizeOutOfRange)
+    check_within(size, MOST_LOADS, Refusal::SizeOutOfRange)
 }
 
 /// Whether a book can have this limit: it refuses with 2 unless that is 1 to 32,640.
 pub fn check_limit(limit: usize) -> Result<(), Refused>
     ensures { Answers (unless_limit limit None) result (λ _. Unit {0}) }
 {
-    check_within(limit, 32640, Refusal::LimitOutOfRange)
+    check_within(limit, MOST_LINKS, Refusal::LimitOutOfRange)
 }
 
 /// Whether a and b are two of `size` loads: the layer refuses with 4 where one is not below the

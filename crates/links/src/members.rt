@@ -21,7 +21,7 @@ pub trait NextMember {
 }
 
 /// The loads that are linked to a load.
-#[derive(Clone, Copy)]
+#[derive(Clone, Copy, Debug)]
 pub struct LinkedTo<'a, L> {
     links: &'a L,
     load: usize,
@@ -38,7 +38,7 @@ impl<L: Links> NextMember for LinkedTo<'_, L> {
 }
 
 /// The members of a set from a number on and below another, in rising order.
-#[derive(Drop)]
+#[derive(Debug, Drop)]
 pub struct MembersInOrder<S> {
     set: S,
     from: usize,

@@ -6,6 +6,8 @@ use Rattle.graph.specs.Graph.{Graph, link_count, no_links}
 use Rattle.links.specs.Books.{Ledger, by_book, unless_within, unless_size, unless_limit}
 use Rattle.links.specs.Memory.{Cleared}
 use Rattle.links.specs.Refusals.{Reason}
+use Rattle.graph.specs.declared.TheConstants.{MOST_LOADS}
+use Rattle.links.specs.declared.TheConstants.{MOST_LINKS}
 use Rattle.links.specs.declared.refusal.Refused.{Refused}
 use Rattle.sorted_rows.specs.Row.{has, RowMade}
 use Rattle.sorted_rows.specs.RowMemory.{row_of, loads_of_row, both_changed}
@@ -26,8 +28,8 @@ ledger_of n d limit count memory =
 
 -- what holds of every book that came from its making
 pub record Made (n d limit count : ℕ) (memory : List ℕ) : Type 0 where
-  pub small : n ≤ 256
-  pub limit_bound : limit ≤ 32640
+  pub small : n ≤ MOST_LOADS
+  pub limit_bound : limit ≤ MOST_LINKS
   pub long : n * (d + 1) ≤ length memory
   pub rows : (a : ℕ) → a < n → RowMade n d a (row_of d memory a)
   pub symmetric : (a b : ℕ) → (graph_of n d memory).linked a b ≡ (graph_of n d memory).linked b a

@@ -25,7 +25,7 @@ use strict_order::first_unordered;
 /// A book of links in numbers that the caller lends. Each load has a row of row limit + 1 numbers:
 /// how many links it has, the loads that it is linked to in rising order, then zeros. No pair is
 /// barred.
-#[derive(Drop)]
+#[derive(Debug, Drop)]
 pub struct SortedRows<'a> {
     size: u16,
     row_limit: u8,

@@ -7,7 +7,7 @@ ghost use Rattle.sorted_rows.specs.RowMemory.{loads_of_row, RowChanged};
 
 /// What can be done with a load in a row.
 /// A closure in its place would need clauses in each function that hands it on.
-#[derive(Clone, Copy)]
+#[derive(Clone, Copy, PartialEq, Eq, Debug)]
 pub enum Change {
     /// Put it in, where the row is not full.
     Insert,

@@ -67,7 +67,7 @@ fn outputs(rt: HostRuntime) {
     check_write(&rt, Command::Partner(9), Ok(3), [5, 0, 9, 7, 7]);
 }
 
-// Bytes that begin no command, and each command without its last byte.
+// Unknown command bytes, and each command without its last byte.
 const DAMAGED: [(&[u8], usize, Refusal); 8] = [
     (&[0, 0, 1, 0, 2], 0, Refusal::UnknownCommand),
     (&[4, 0, 1, 6], 3, Refusal::UnknownCommand),

@@ -285,7 +285,7 @@ fn one_byte_more(rt: HostRuntime) -> Result<(), Fail> {
     Ok(())
 }
 
-// Streams with a byte that begins no command, or that end inside a command, and the place of its
+// Streams with an unknown command byte, or that end inside a command, and the place of its
 // first byte.
 const BAD_STREAMS: [(&[u8], Refusal, usize); 16] = [
     (&[0], Refusal::UnknownCommand, 0),
