@@ -13,11 +13,11 @@ use Rattle.commands.specs.declared.Command.{Command}
 use Rattle.commands.specs.declared.Command.TheVariants.{Link, Unlink, Withdraw, Depart, Partner}
 use Rattle.replies.specs.Lines.{line}
 use Rattle.board.specs.declared.Board.{Board}
-use Rattle.board.specs.Runs.{Run, more}
+use Rattle.board.specs.Runs.{Run, more, CarriesRuns}
 use Rattle.stream.specs.Replies.{call_of, reply_at}
 use Rattle.stream.specs.Steps.{Found, at_end, no_command, command, found_at, stepping, WritesLine, Takes, Steps}
 use Rattle.stream.specs.declared.Stepped.{Stepped}
-use Rattle.board_examples.specs.Stepping.{CarriesRuns, Grants, next_place, Moved, CarriesOut, CarriesOutTwo}
+use Rattle.board_examples.specs.Stepping.{Grants, next_place, Moved, CarriesOut, CarriesOutTwo}
 use Rattle.board_examples.proofs.Refusals.{not_refused}
 
 -- ---- the line

@@ -11,4 +11,5 @@ use Rattle.repair.specs.declared.Repair.{Repair}
 abbrev pub OnLinks : {L R : Type 0} → (L → Type 0) → (L → Graph) → (R → Ranking) → Repair L R
     → (Ranking → ℕ → Graph → Type 0) → Type 0
 OnLinks made graph before r Holds =
-    OfLinks (made r.links.now) (graph r.links.now) (Holds (before r.ranking.now) (threshold r.limit))
+    OfLinks (made r.links.now) (graph r.links.now)
+    (Holds (before r.ranking.now) (threshold r.limit))
