@@ -5,7 +5,7 @@
 use std::fmt::Display;
 use std::io::Read;
 use std::{env, io};
-use text::stream::{decode, encode};
+use text::conversion::{decode, encode};
 
 fn input(rt: &HostRuntime) -> io::Result<Vec<u8>> {
     let mut bytes = Vec::new(rt.alloc());

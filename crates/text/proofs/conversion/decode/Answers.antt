@@ -1,7 +1,7 @@
 use Rattle.std.proofs.Common.{◌≡◌, Some, None, Ok, rules, arith}
 use Rattle.std.proofs.lemmas.List.{take_all}
 use Rattle.text.proofs.Texts.{spelled_more, spelled_stands, read_short, ended}
-use Rattle.text.proofs.stream.decode.Goals as goal
+use Rattle.text.proofs.conversion.decode.Goals as goal
 
 pub loop-text-preserved : goal.loop-text-preserved
 loop-text-preserved c =

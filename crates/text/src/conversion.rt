@@ -2,55 +2,66 @@
 ghost use Rattle.std.specs.Prelude.{◌≡◌, ◌++◌, string_bytes, OnOk, Some};
 ghost use Rattle.commands.specs.Commands.{bytes, line_of};
 ghost use Rattle.text.specs.Lines.{Means};
-ghost use Rattle.text.specs.Streams.{Appends, Encodes, full_line, Decodes, bad_text_told};
-ghost use Rattle.text.specs.Streams.{bad_stream_told};
-ghost use Rattle.text.specs.declared.stream.BadText.TheVariants as bad_text;
-ghost use Rattle.text.specs.declared.stream.BadStream.TheVariants as bad_stream;
+ghost use Rattle.text.specs.Conversion.{Appends, Encodes, full_line, Decodes, bad_text_told};
+ghost use Rattle.text.specs.Conversion.{bad_stream_told};
+ghost use Rattle.text.specs.declared.conversion.BadText.TheVariants as bad_text;
+ghost use Rattle.text.specs.declared.conversion.BadStream.TheVariants as bad_stream;
 
 use crate::parse_line;
+use crate::shown::Quoted;
+use crate::words::without_return;
 use commands::{Command, LONGEST_STREAM, read};
 use links::Refused;
 use std::alloc::{AllocError, Global};
 use std::error::Error;
 use std::fmt;
 
+// What a line may say, for people to read.
+const FORMS: &str = "link A B, unlink A B, withdraw A, depart A, partner A";
+
 /// Why a text gives no stream.
 #[derive(Clone, Copy, PartialEq, Eq, Debug)]
-pub enum BadText {
-    /// The number of the first line that is bad, counted from 1.
-    Line(usize),
+pub enum BadText<'a> {
+    /// The number of the first line that is bad, counted from 1, and its text without the line
+    /// feed.
+    Line(usize, &'a [u8]),
     /// The commands come to more bytes than a stream may have.
     TooLong,
+    /// There is no memory for the stream.
     NoMemory,
 }
 
-impl From<AllocError> for BadText {
+impl From<AllocError> for BadText<'_> {
     ghost from_gives = { λ _ r. r ≡ bad_text.NoMemory };
 
-    fn from(_none: AllocError) -> BadText {
+    fn from(_none: AllocError) -> Self {
         BadText::NoMemory
     }
 }
 
-impl fmt::Display for BadText {
+impl fmt::Display for BadText<'_> {
     ghost output = { λ e. Some (bad_text_told e) };
 
     fn fmt<W: fmt::Write>(&self, f: &mut fmt::Formatter<W>) -> fmt::Result {
         match self {
-            Self::Line(number) => write!(f, "line {number}: no command of this form"),
+            Self::Line(number, line) => {
+                let line = Quoted(without_return(line));
+                write!(f, "line {number}: {line} is no command ({FORMS})")
+            }
             Self::TooLong => f.write_str("the commands come to more than 65536 bytes"),
             Self::NoMemory => f.write_str("no memory is left"),
         }
     }
 }
 
-impl Error for BadText {}
+impl Error for BadText<'_> {}
 
 /// Why a stream gives no text.
 #[derive(Clone, Copy, PartialEq, Eq, Debug)]
 pub enum BadStream {
     /// Why, and the place of the command byte; 0 where the stream is too long.
     At(Refused, usize),
+    /// There is no memory for the text.
     NoMemory,
 }
 
@@ -67,10 +78,10 @@ impl fmt::Display for BadStream {
 
     fn fmt<W: fmt::Write>(&self, f: &mut fmt::Formatter<W>) -> fmt::Result {
         match self {
-            Self::At(refused, place) => {
-                let number = refused.refusal.number();
-                write!(f, "byte {place}: refused with {number}")
-            }
+            Self::At(refused, place) => match refused.refusal.number() {
+                3 => f.write_str("the stream has more than 65536 bytes (refusal 3)"),
+                number => write!(f, "byte {place}: {} (refusal {number})", refused.refusal),
+            },
             Self::NoMemory => f.write_str("no memory is left"),
         }
     }
@@ -87,10 +98,10 @@ fn push(stream: &mut Vec<u8>, command: Command) -> Result<(), AllocError>
 }
 
 // Appends the bytes of the command of a line, if it has one. The number is that of the line.
-fn push_line(stream: &mut Vec<u8>, line: &[u8], number: usize) -> Result<(), BadText>
+fn push_line<'a>(stream: &mut Vec<u8>, line: &'a [u8], number: usize) -> Result<(), BadText<'a>>
     ensures { Appends line.now number stream.old.items result stream.new.items }
 {
-    if let Some(command) = parse_line(line).map_err(|_| BadText::Line(number))? {
+    if let Some(command) = parse_line(line).map_err(|_| BadText::Line(number, line))? {
         push(stream, command)?;
     }
     Ok(())
@@ -100,7 +111,7 @@ fn push_line(stream: &mut Vec<u8>, line: &[u8], number: usize) -> Result<(), Bad
 ///
 /// The text is taken line by line, and refused at the first line that is bad, or with which the
 /// commands come to more than 65,536 bytes. The time grows with the length of the text.
-pub fn encode(heap: Global, text: &[u8]) -> Result<Vec<u8>, BadText>
+pub fn encode<'a>(heap: Global, text: &'a [u8]) -> Result<Vec<u8>, BadText<'a>>
     ensures { Encodes text.now result }
 {
     let mut stream = Vec::new(heap);

@@ -5,10 +5,10 @@ use Rattle.std.proofs.lemmas.List.FromFn.{get_or-enumerate_from, length-enumerat
 use Rattle.std.proofs.lemmas.Result.{err_from_is_err_and}
 use Rattle.std.proofs.lemmas.Iterator.Consumers.{YieldsList-at, YieldsList-from_enumerate, YieldsList-turn, YieldsList-end}
 use Rattle.std.proofs.lemmas.Iterator.Splits.{YieldsList-from_slice_split}
-use Rattle.text.specs.Streams.{lines}
+use Rattle.text.specs.Conversion.{lines}
 use Rattle.text.proofs.Texts.{refused, too_many, sofar_more, sofar_all}
-use Rattle.text.proofs.stream.encode.Goals as goal
-use Rattle.text.proofs.stream.encode.Goals.{In-Some}
+use Rattle.text.proofs.conversion.encode.Goals as goal
+use Rattle.text.proofs.conversion.encode.Goals.{In-Some}
 
 turn : (c : In-Some) → (length c.loop-i.yielded < length (lines c.args.text.now)) × ((c.in-Some.i ≡ length c.loop-i.yielded) × (c.in-Some.line.now ≡ get_or (lines c.args.text.now) (length c.loop-i.yielded) []))
 turn c =

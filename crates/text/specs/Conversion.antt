@@ -1,20 +1,23 @@
 -- Whole texts and the streams that they stand for.
-use Rattle.std.specs.Prelude.{◌≡◌, ℕ, ◌+◌, ◌<◌, ◌≤◌, true, false, List, [], ◌++◌, length, take}
+use Rattle.std.specs.Prelude.{◌≡◌, ℕ, ◌+◌, ◌<◌, ◌≤◌, true, false, cond, List, [], ◌++◌, length, take}
 use Rattle.std.specs.Prelude.{is_ok, Some, None, Ok, Err, vec_items, string_bytes, codes, decimal}
 use Rattle.std.specs.Prelude.{Option, Result, Vec, String, ◌==◌, slice_index_or}
 use Rattle.std.specs.List.{slice_split, flat_map, AllByRecursion}
 use Rattle.std.specs.declared.alloc.Global.{Global}
 use Rattle.links.specs.Refusals.{told}
+use Rattle.links.specs.Words.{reason_text}
 use Rattle.links.specs.declared.refusal.Refused.{Refused}
 use Rattle.commands.specs.Commands.{bytes, line_of, reading}
 use Rattle.commands.specs.declared.Command.{Command}
+use Rattle.text.specs.Words.{line_without_return}
 use Rattle.text.specs.Lines.{meaning, Means}
+use Rattle.text.specs.Shown.{quoted}
 use Rattle.text.specs.declared.BadLine.{BadLine}
-use Rattle.text.specs.declared.stream.BadText.{BadText}
-use Rattle.text.specs.declared.stream.BadText.TheVariants.{Line, TooLong, NoMemory}
-use Rattle.text.specs.declared.stream.BadStream.{BadStream}
-use Rattle.text.specs.declared.stream.BadStream.TheVariants.{At}
-use Rattle.text.specs.declared.stream.BadStream.TheVariants as bad_stream
+use Rattle.text.specs.declared.conversion.BadText.{BadText}
+use Rattle.text.specs.declared.conversion.BadText.TheVariants.{Line, TooLong, NoMemory}
+use Rattle.text.specs.declared.conversion.BadStream.{BadStream}
+use Rattle.text.specs.declared.conversion.BadStream.TheVariants.{At}
+use Rattle.text.specs.declared.conversion.BadStream.TheVariants as bad_stream
 
 -- the lines of a text: what stands before, between and after its line feeds
 abbrev pub lines : List ℕ → List (List ℕ)
@@ -43,11 +46,12 @@ stream_of text = flat_map line_bytes (lines text)
 
 -- the line with this number, counted from 1, is the first that is bad, and the lines before it have
 -- no more bytes than a stream may have
-pub record FirstBad (text : List ℕ) (number : ℕ) : Type 0 where
+pub record FirstBad (text : List ℕ) (number : ℕ) (line : List ℕ) : Type 0 where
   pub index : ℕ
   pub counted : number ≡ index + 1
   pub inside : index < length (lines text)
-  pub bad : is_ok (meaning (slice_index_or (lines text) index [])) ≡ false
+  pub line_is : line ≡ slice_index_or (lines text) index []
+  pub bad : is_ok (meaning line) ≡ false
   pub before : Good text index
   pub short : length (first_bytes text index) ≤ 65536
 
@@ -67,19 +71,26 @@ pub record StandsFor (text stream : List ℕ) : Type 0 where
 abbrev pub Appends : List ℕ → ℕ → List ℕ → Result (Unit {0}) BadText → List ℕ → Type 0
 Appends line number before (Ok done) after =
     (is_ok (meaning line) ≡ true) × (after ≡ before ++ line_bytes line)
-Appends line number before (Err (Line n)) after = (n ≡ number) × (is_ok (meaning line) ≡ false)
+Appends line number before (Err (Line n told)) after =
+    (n ≡ number) × (told.now ≡ line) × (is_ok (meaning line) ≡ false)
 Appends line number before (Err TooLong) after = ⊥
 Appends line number before (Err NoMemory) after = Unit {0}
 
 abbrev pub Encodes : List ℕ → Result (Vec ℕ Global) BadText → Type 0
 Encodes text (Ok stream) = StandsFor text (vec_items stream) × (length (vec_items stream) ≤ 65536)
-Encodes text (Err (Line number)) = FirstBad text number
+Encodes text (Err (Line number line)) = FirstBad text number line.now
 Encodes text (Err TooLong) = TooMany text
 Encodes text (Err NoMemory) = Unit {0}
 
+-- what a line may say, for people to read
+abbrev pub forms : List ℕ
+forms = codes "link A B, unlink A B, withdraw A, depart A, partner A"
+
 -- how it is told that a text gives no stream
 abbrev pub bad_text_told : BadText → List ℕ
-bad_text_told (Line number) = codes "line " ++ (decimal number ++ codes ": no command of this form")
+bad_text_told (Line number line) =
+    codes "line " ++ (decimal number ++ (codes ": " ++ (quoted (line_without_return line.now)
+    ++ (codes " is no command (" ++ (forms ++ codes ")")))))
 bad_text_told TooLong = codes "the commands come to more than 65536 bytes"
 bad_text_told NoMemory = codes "no memory is left"
 
@@ -105,9 +116,14 @@ Decodes stream (Ok text) = Spelled stream (string_bytes text) × StandsFor (stri
 Decodes stream (Err (At refused place)) = StopsAt stream place refused
 Decodes stream (Err bad_stream.NoMemory) = Unit {0}
 
+-- how a refusal with this number is told; 3 is of the whole stream, and others of a place
+abbrev pub refusal_told : ℕ → ℕ → List ℕ
+refusal_told number place =
+    cond (number == 3) (codes "the stream has more than 65536 bytes (refusal 3)")
+    (codes "byte " ++ (decimal place ++ (codes ": " ++ (reason_text number
+    ++ (codes " (refusal " ++ (decimal number ++ codes ")"))))))
+
 -- how it is told that a stream gives no text
 abbrev pub bad_stream_told : BadStream → List ℕ
-bad_stream_told (At refused place) =
-    codes "byte "
-    ++ (decimal place ++ (codes ": refused with " ++ decimal (told refused).number))
+bad_stream_told (At refused place) = refusal_told (told refused).number place
 bad_stream_told bad_stream.NoMemory = codes "no memory is left"
