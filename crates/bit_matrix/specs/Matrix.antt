@@ -1,10 +1,10 @@
 -- A graph in a bit matrix.
-use Rattle.std.specs.Prelude.{◌≡◌, ℕ, ◌+◌, ◌-◌, ◌*◌, ◌/◌, ◌%◌, ◌<◌, ◌≤◌, Bool, false, cond, ◌&&◌}
-use Rattle.std.specs.Prelude.{◌||◌, List, [], length, take, drop, Some, None, Option, ◌==◌, nat_lt}
-use Rattle.std.specs.Prelude.{slice_index}
+use Rattle.std.specs.Prelude.{◌≡◌, ℕ, ◌+◌, ◌-◌, ◌*◌, ◌/◌, ◌%◌, ◌<◌, ◌≤◌, Bool, false, ◌&&◌, ◌||◌}
+use Rattle.std.specs.Prelude.{if◌then◌else◌, List, [], length, take, drop, Some, None, Option, ◌==◌}
+use Rattle.std.specs.Prelude.{nat_lt, slice_index}
 use Rattle.std.specs.Borrow.{GName}
 use Rattle.graph.specs.Graph.{Graph, degree, link_count, no_links}
-use Rattle.links.specs.Books.{Ledger, Stands, by_book, unless_size, unless_limit}
+use Rattle.links.specs.Books.{Ledger, Stands, fresh_ledger, by_book, unless_size, unless_limit}
 use Rattle.links.specs.Memory.{Cleared}
 use Rattle.links.specs.Refusals.{Reason}
 use Rattle.graph.specs.declared.TheConstants.{MOST_LOADS}
@@ -29,7 +29,8 @@ word_at n a b = a * row_words n + b / 64
 
 -- the words of row a, as far as there are words; none from n on
 abbrev pub matrix_row : ℕ → List ℕ → ℕ → List ℕ
-matrix_row n words a = cond (nat_lt a n) (take (row_words n) (drop (a * row_words n) words)) []
+matrix_row n words a =
+    if nat_lt a n then take (row_words n) (drop (a * row_words n) words) else []
 
 -- row a has load b
 unfoldable pub cell : ℕ → List ℕ → ℕ → ℕ → Bool
@@ -57,7 +58,7 @@ ledger n limit count words =
     record {
       limit = limit;
       barred = λ _ _. false;
-      spare = λ a. cond (nat_lt a n) (n - 1 - degree (matrix n words) a) 0;
+      spare = λ a. if nat_lt a n then n - 1 - degree (matrix n words) a else 0;
       room = limit - count;
     }
 
@@ -102,20 +103,13 @@ matrix_fixed m =
 -- the first reason to refuse a matrix of n loads in so many words
 abbrev pub checking : ℕ → ℕ → ℕ → Option Reason
 checking n limit memory =
-    unless_size n (unless_limit limit (cond (nat_lt memory (all_words n)) (by_book 3) None))
-
-abbrev pub fresh : ℕ → ℕ → Ledger
-fresh n limit =
-    record {
-      limit = limit;
-      barred = λ _ _. false;
-      spare = λ a. cond (nat_lt a n) (n - 1) 0;
-      room = limit;
-    }
+    unless_size n
+    (unless_limit limit (if nat_lt memory (all_words n) then by_book 3 else None))
 
 -- the matrix has no links and every spare
 abbrev pub Fresh : ℕ → ℕ → BitMatrix → Type 0
-Fresh n limit m = Stands matrix_graph MatrixMade matrix_ledger m (no_links n) (fresh n limit)
+Fresh n limit m =
+    Stands matrix_graph MatrixMade matrix_ledger m (no_links n) (fresh_ledger n (n - 1) limit)
 
 -- what is made in memory that held `before`: a matrix, or, where there is a reason to refuse it, a
 -- book of no loads
@@ -138,7 +132,7 @@ rewritten m tally words =
 pub record Written (on : Bool) (test : ℕ → ℕ → Bool) (before after : List ℕ) : Type 0 where
   pub same_length : length after ≡ length before
   pub bits : (k j : ℕ) →
-      bit (slice_index after k) j ≡ cond (test k j) on (bit (slice_index before k) j)
+      bit (slice_index after k) j ≡ (if test k j then on else bit (slice_index before k) j)
 
 -- a and b are two loads, and word k is there
 abbrev pub held : BitMatrix → ℕ → ℕ → ℕ → Bool

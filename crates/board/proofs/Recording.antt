@@ -2,10 +2,10 @@
 use Rattle.std.proofs.Common.{◌≡◌, ℕ, ◌+◌, ◌<◌, ◌≤◌, true, false, Option, sym, ap, ◌∙◌, subst, inl, inr, arith}
 use Rattle.std.proofs.lemmas.Bool.{cases_eq}
 use Rattle.std.proofs.lemmas.Bool.Decides.{nat_tests}
-use Rattle.graph.specs.Graph.{Graph, Simple, First, added, no_links}
+use Rattle.graph.specs.Graph.{Graph, Simple, First, added, no_links, NextBelow}
 use Rattle.links.specs.declared.members.MembersInOrder.{MembersInOrder}
 use Rattle.links.specs.declared.members.LinkedTo.{LinkedTo}
-use Rattle.links.specs.InOrder.{NextBelow, past, GivesNext, Over}
+use Rattle.links.specs.InOrder.{past, GivesNext, Over}
 use Rattle.tables.specs.declared.Tables.{Tables}
 use Rattle.tables.specs.Views.{Agrees, New}
 use Rattle.tables.specs.Changes.{Relinking}

@@ -4,7 +4,8 @@ use Rattle.graph.specs.Graph.{Graph, no_links, added}
 use Rattle.links.specs.Books.{Ledger, lowered, by_book}
 use Rattle.bits.specs.Bit.{bit}
 use Rattle.class_filter.specs.Classes.{bars_classes, hidden, filtered, filtered_ledger}
-use Rattle.rules.specs.Boards.{by_number, fresh_ledger, listed}
+use Rattle.links.specs.Books.{fresh_ledger}
+use Rattle.rules.specs.Boards.{by_number, listed}
 use Rattle.rules.specs.Calls.{Position, link, unlink, ask_free_links, reason, after, opened, free_links_of}
 
 abbrev pub hides : ℕ → ℕ → Bool
@@ -14,7 +15,7 @@ abbrev pub brought : Graph
 brought = added (added (no_links 3) 0 1) 1 2
 
 abbrev pub allowed : Ledger
-allowed = lowered (lowered (fresh_ledger 3 3) 0 1) 1 2
+allowed = lowered (lowered (fresh_ledger 3 2 3) 0 1) 1 2
 
 abbrev pub start : Position
 start = opened by_number (filtered hides brought) (filtered_ledger hides 3 allowed)

@@ -1,7 +1,7 @@
 //! What the law of runs says of a board in play, of which no repair is computed.
 ghost use Rattle.graph.specs.Graph.{no_links};
 ghost use Rattle.links.specs.Books.{Stands};
-ghost use Rattle.rules.specs.Boards.{fresh_ledger};
+ghost use Rattle.links.specs.Books.{fresh_ledger};
 ghost use Rattle.board_examples.specs.Lawful.{LawSeen};
 
 use crate::{link_all, partners};
@@ -25,7 +25,7 @@ pub fn read_by_law<B: Book + Drop, R: Ranking + Drop>(
     ranking: R,
 ) -> Result<Readings, Refused>
     ensures { Stands B.Links.graph B.Links.made B.Book.ledger book (no_links 24)
-        (fresh_ledger 24 30) → LawSeen result }
+        (fresh_ledger 24 23 30) → LawSeen result }
 {
     let mut board = Board::open(book, ranking);
     link_all(

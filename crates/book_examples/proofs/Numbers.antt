@@ -4,16 +4,16 @@ use Rattle.std.proofs.lemmas.Bool.Decides.{nat_tests}
 use Rattle.std.proofs.lemmas.Grind.{same_number_lists}
 use Rattle.std.proofs.lemmas.List.{length-drop, get_or-drop}
 use Rattle.graph.specs.Graph.{Graph, no_links}
-use Rattle.links.specs.Books.{Stands}
+use Rattle.links.specs.Books.{Stands, fresh_ledger}
 use Rattle.links.specs.Refusals.{Reason}
 use Rattle.sorted_rows.specs.RowMemory.{row_of}
 use Rattle.sorted_rows.proofs.RowMemory.{get_row_of}
 use Rattle.sorted_rows.specs.declared.SortedRows.{SortedRows}
-use Rattle.sorted_rows.specs.Rows.{rows_graph, RowsMade, rows_ledger, rows_fixed, fresh, checking, Making}
+use Rattle.sorted_rows.specs.Rows.{rows_graph, RowsMade, rows_ledger, rows_fixed, checking, Making}
 use Rattle.sorted_rows.specs.Theorems.{MemoryHolds, MemoryFollows}
 use Rattle.book_examples.proofs.Three.{one_link}
 
-pub stands_fresh : (reason : Option Reason) (before : List ℕ) (s : SortedRows) → reason ≡ None → Making reason 3 2 3 before s → RowsMade s → Stands rows_graph RowsMade rows_ledger s (no_links 3) (fresh 3 2 3)
+pub stands_fresh : (reason : Option Reason) (before : List ℕ) (s : SortedRows) → reason ≡ None → Making reason 3 2 3 before s → RowsMade s → Stands rows_graph RowsMade rows_ledger s (no_links 3) (fresh_ledger 3 2 3)
 stands_fresh reason before s none making made =
     let new = (subst (λ (o : Option Reason). Making o 3 2 3 before s) none making).0 in
     record { graph_is = new.graph; ledger_is = new.ledger; still_made = made }

@@ -4,17 +4,17 @@ use Rattle.std.proofs.lemmas.Bool.Decides.{nat_tests}
 use Rattle.std.proofs.lemmas.Grind.{same_number_lists}
 use Rattle.std.proofs.lemmas.List.{length-drop, get_or-drop}
 use Rattle.graph.specs.Graph.{Graph, no_links}
-use Rattle.links.specs.Books.{Stands}
+use Rattle.links.specs.Books.{Stands, fresh_ledger}
 use Rattle.links.specs.Refusals.{Reason}
 use Rattle.bits.specs.Bit.{bit}
 use Rattle.bits.proofs.Bitwise.{bit_zero, bit_set, same_word}
 use Rattle.bit_matrix.specs.declared.BitMatrix.{BitMatrix}
-use Rattle.bit_matrix.specs.Matrix.{matrix_graph, MatrixMade, matrix_ledger, matrix_fixed, fresh, checking, Making}
+use Rattle.bit_matrix.specs.Matrix.{matrix_graph, MatrixMade, matrix_ledger, matrix_fixed, checking, Making}
 use Rattle.bit_matrix.specs.Theorems.{MemoryHolds, MemoryFollows}
 use Rattle.book_examples.proofs.Three.{one_link}
 
 -- a matrix that is made in enough words has no links and all spares
-pub stands_fresh : (reason : Option Reason) (before : List ℕ) (m : BitMatrix) → reason ≡ None → Making reason 3 3 before m → Stands matrix_graph MatrixMade matrix_ledger m (no_links 3) (fresh 3 3)
+pub stands_fresh : (reason : Option Reason) (before : List ℕ) (m : BitMatrix) → reason ≡ None → Making reason 3 3 before m → Stands matrix_graph MatrixMade matrix_ledger m (no_links 3) (fresh_ledger 3 2 3)
 stands_fresh reason before m none making = (subst (λ (o : Option Reason). Making o 3 3 before m) none making).0
 
 pub long_enough : (memory : ℕ) → checking 3 3 memory ≡ None → 3 ≤ memory

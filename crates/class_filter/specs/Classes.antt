@@ -1,19 +1,19 @@
 -- Classes of loads, and what barred pairs of classes leave of a graph and of a ledger.
-use Rattle.std.specs.Prelude.{ℕ, min, Bool, cond, not, ◌&&◌, ◌||◌, List, Option, Some, None, Result}
-use Rattle.std.specs.Prelude.{OnOk, nat_lt, slice_index}
+use Rattle.std.specs.Prelude.{ℕ, min, Bool, not, ◌&&◌, ◌||◌, if◌then◌else◌, List, Option}
+use Rattle.std.specs.Prelude.{None, Result, OnOk, nat_lt, slice_index}
 use Rattle.graph.specs.Graph.{Graph, added, removed}
 use Rattle.graph.specs.declared.TheConstants.{MOST_LOADS}
 use Rattle.links.specs.declared.refusal.Layer.TheVariants.{Book}
 use Rattle.links.specs.declared.refusal.Refusal.{Refusal}
 use Rattle.links.specs.declared.refusal.Refused.{Refused}
 use Rattle.links.specs.Books.{Ledger, Stands, lowered, raised, unless_two_of}
-use Rattle.links.specs.Refusals.{Reason, told}
+use Rattle.links.specs.Refusals.{Reason, told_by}
 use Rattle.bits.specs.Bit.{bit}
 use Rattle.class_filter.specs.declared.ClassFilter.{ClassFilter}
 
 -- the class of load a: one above 7 counts as 7, and a load that is given none has class 0
 abbrev pub class_of : List ℕ → ℕ → ℕ
-class_of classes a = cond (nat_lt a MOST_LOADS) (min (slice_index classes a) 7) 0
+class_of classes a = if nat_lt a MOST_LOADS then min (slice_index classes a) 7 else 0
 
 -- classes i and j are barred where byte i has bit j set, or byte j has bit i set
 unfoldable pub bars_classes : List ℕ → ℕ → ℕ → Bool
@@ -64,7 +64,7 @@ filter_fixed fixed f = record { classes = f.classes; bars = f.bars; below = fixe
 abbrev pub unless_visible : (ℕ → ℕ → Bool) → ℕ → ℕ → ℕ → Refusal → Option Reason
 unless_visible hid n a b refusal =
     unless_two_of Book n a b
-    (cond (hid a b) (Some (told (record { refusal = refusal; layer = Book }))) None)
+    (if hid a b then told_by refusal Book else None)
 
 module _
     {B : Type 0} (graph : B → Graph) (made : B → Type 0) (ledger : B → Ledger)

@@ -2,8 +2,9 @@
 #![tactic(auto)]
 
 ghost use Rattle.std.specs.Prelude.{◌≡◌, length};
+ghost use Rattle.graph.specs.Graph.{lowest_passing};
 ghost use Rattle.links.specs.Refusals.{Answers};
-ghost use Rattle.link_list.specs.Entries.{in_bounds, joins, next_joined, touches, lower_of, first};
+ghost use Rattle.link_list.specs.Entries.{in_bounds, joins, next_joined, touches, lower_of};
 ghost use Rattle.link_list.specs.Entries.{out_of_bounds};
 ghost use Rattle.link_list.specs.Lists.{list_graph, ListMade, checking, Sound, Listing};
 
@@ -65,7 +66,7 @@ fn lower(x: Option<usize>, y: Option<usize>) -> Option<usize>
 }
 
 fn first_out_of_bounds(size: usize, entries: &[Entry]) -> Option<usize>
-    ensures { result ≡ first (length entries.now) (out_of_bounds size entries.now) }
+    ensures { result ≡ lowest_passing (length entries.now) (out_of_bounds size entries.now) }
 {
     entries.iter().position(|link| !link.is_in_bounds(size))
 }

@@ -9,9 +9,9 @@ ghost use Rattle.links.specs.Books.{unless_limit, unless_two_of, unless_open, un
 ghost use Rattle.links.specs.Books.{unless_room, removing};
 ghost use Rattle.links.specs.Refusals.{Answers, told_by};
 
+pub mod members;
 mod refusal;
 mod tally;
-pub mod members;
 
 pub use graph::MOST_LOADS;
 pub use refusal::{Layer, Refusal, Refused};

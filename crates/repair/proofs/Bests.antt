@@ -1,10 +1,10 @@
 -- The first in a ranking among the members of a set that pass a test.
 use Rattle.std.proofs.Common.{◌≡◌, ℕ, ◌+◌, ◌<◌, ◌≤◌, Bool, true, false, ◌&&◌, Some, None, Option, sym, ap, ◌∙◌, subst, inl, inr, arith}
 use Rattle.std.proofs.lemmas.Bool.{cases_eq, and_from, and_left, and_right}
-use Rattle.graph.specs.Graph.{Graph, Simple, First}
+use Rattle.graph.specs.Graph.{Graph, Simple, First, NextBelow}
 use Rattle.links.specs.declared.members.MembersInOrder.{MembersInOrder}
 use Rattle.links.specs.declared.members.LinkedTo.{LinkedTo}
-use Rattle.links.specs.InOrder.{NextBelow, GivesNext, Over}
+use Rattle.links.specs.InOrder.{GivesNext, Over}
 use Rattle.ranking.specs.First.{earlier}
 use Rattle.rules.specs.First.{first}
 use Rattle.tables.specs.declared.Tables.{Tables}

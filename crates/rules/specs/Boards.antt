@@ -3,7 +3,9 @@ use Rattle.std.specs.Prelude.{◌≡◌, ℕ, zero, suc, ◌+◌, ◌-◌, ◌%�
 use Rattle.std.specs.Prelude.{◌∷◌, ◌++◌, Some, None, Option, ◌==◌, nat_lt}
 use Rattle.graph.specs.Graph.{no_links, degree}
 use Rattle.graph.specs.Matching.{Augmenting}
-use Rattle.links.specs.Books.{Ledger, by_book}
+use Rattle.graph.specs.declared.TheConstants.{MOST_LOADS}
+use Rattle.links.specs.declared.TheConstants.{MOST_LINKS}
+use Rattle.links.specs.Books.{fresh_ledger, by_book}
 use Rattle.links.specs.Refusals.{Reason}
 use Rattle.ranking.specs.Order.{lower}
 use Rattle.rules.specs.Calls.{Position, Call, link, unlink, withdraw, depart, ask_partner, reason}
@@ -13,29 +15,24 @@ use Rattle.rules.specs.Repair.{Ranking, paired}
 use Rattle.rules.specs.Threshold.{threshold}
 
 abbrev pub Thresholds : Type 0
-Thresholds = (threshold 1 ≡ 2) × (threshold 8 ≡ 4) × (threshold 2048 ≡ 64) × (threshold 32640 ≡ 256)
+Thresholds =
+    (threshold 1 ≡ 2) × (threshold 8 ≡ 4) × (threshold 2048 ≡ 64)
+    × (threshold MOST_LINKS ≡ MOST_LOADS)
 
 -- ---- how boards are played and read
 
 abbrev pub by_number : Ranking
 by_number a = lower
 
--- the ledger of a book of n loads that has no links yet, and bars none
-abbrev pub fresh_ledger : ℕ → ℕ → Ledger
-fresh_ledger n limit =
-    record {
-      limit = limit;
-      barred = λ _ _. false;
-      spare = λ a. cond (nat_lt a n) (n - 1) 0;
-      room = limit;
-    }
-
+-- a board that is opened on a book without links, in which each load may be linked to every other
 abbrev pub fresh : ℕ → ℕ → Position
-fresh n limit = opened by_number (no_links n) (fresh_ledger n limit)
+fresh n limit = opened by_number (no_links n) (fresh_ledger n (n - 1) limit)
 
 -- such a book is proper
 abbrev pub FreshProper : Type 0
-FreshProper = (n limit : ℕ) → n ≤ 256 → limit ≤ 32640 → Proper (no_links n) (fresh_ledger n limit)
+FreshProper =
+    (n limit : ℕ) → n ≤ MOST_LOADS → limit ≤ MOST_LINKS →
+    Proper (no_links n) (fresh_ledger n (n - 1) limit)
 
 abbrev pub played_by : Ranking → List Call → Position → Position
 played_by before [] x = x

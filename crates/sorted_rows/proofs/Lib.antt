@@ -2,7 +2,6 @@ pub mod RowChange
 pub mod Rising
 pub mod RowLaws
 pub mod RowMemory
-pub mod BookLaws
-pub mod BookChange
-pub mod BookAnswers
+pub mod MadeRows
+pub mod LinkChange
 pub mod Memory

@@ -10,7 +10,7 @@ use Rattle.sorted_rows.proofs.RowLaws.{row_parts}
 use Rattle.sorted_rows.specs.declared.SortedRows.{SortedRows}
 use Rattle.sorted_rows.specs.Rows.{rows_graph, RowsMade, RowsFixed, rows_fixed, Making}
 use Rattle.sorted_rows.specs.Theorems.{linked_loads, RowsHold, MemoryHolds, Spared}
-use Rattle.sorted_rows.proofs.BookLaws.{loads_in, long_row, rising, below, linked_is, length_loads, degree_is, spare_is, degree_within}
+use Rattle.sorted_rows.proofs.MadeRows.{loads_in, long_row, rising, below, linked_is, length_loads, degree_is, spare_is, degree_within}
 
 pub rows_hold : (s : SortedRows) → RowsMade s → RowsHold s.row_limit (rows_graph s) s.rows.now
 rows_hold s made a l =

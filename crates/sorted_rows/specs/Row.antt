@@ -1,6 +1,6 @@
 -- One row: its count, then that many loads in rising order, then zeros.
-use Rattle.std.specs.Prelude.{◌≡◌, ℕ, suc, ◌+◌, ◌-◌, ◌<◌, ◌≤◌, Bool, true, false, cond, ◌||◌, ltb}
-use Rattle.std.specs.Prelude.{List, [], ◌∷◌, ◌++◌, length, take, drop, ◌==◌, nat_lt, slice_index}
+use Rattle.std.specs.Prelude.{◌≡◌, ℕ, suc, ◌+◌, ◌-◌, ◌<◌, ◌≤◌, Bool, true, false, ◌||◌, ltb}
+use Rattle.std.specs.Prelude.{if◌then◌else◌, List, [], ◌∷◌, ◌++◌, length, take, drop, ◌==◌, nat_lt, slice_index}
 use Rattle.std.specs.Prelude.{slice_index_or}
 use Rattle.std.specs.List.{insert, remove}
 use Rattle.strict_order.specs.StrictOrder.{Rises}
@@ -19,7 +19,7 @@ has (x ∷ xs) b = x == b || has xs b
 -- the index of the first number that is not below b
 abbrev pub place : List ℕ → ℕ → ℕ
 place [] b = 0
-place (x ∷ xs) b = cond (nat_lt x b) (suc (place xs b)) 0
+place (x ∷ xs) b = if nat_lt x b then suc (place xs b) else 0
 
 -- a load can be put in, with what the row is then
 abbrev pub Insertable : List ℕ → ℕ → Type 0

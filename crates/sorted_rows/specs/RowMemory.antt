@@ -1,8 +1,12 @@
 -- Memory in rows of d + 1 numbers, one row for each load.
-use Rattle.std.specs.Prelude.{◌≡◌, ℕ, ◌+◌, ◌*◌, ◌<◌, ◌≤◌, cond, List, [], ◌++◌, length, take, drop}
-use Rattle.std.specs.Prelude.{nat_lt}
+use Rattle.std.specs.Prelude.{◌≡◌, ℕ, ◌+◌, ◌*◌, ◌<◌, ◌≤◌, List, [], ◌++◌, length, take, drop}
+use Rattle.std.specs.Prelude.{if◌then◌else◌, nat_lt}
 use Rattle.sorted_rows.specs.Row.{entries, Able, changed}
 use Rattle.sorted_rows.specs.declared.row.Change.{Change}
+
+-- how many numbers n rows have
+abbrev pub all_numbers : ℕ → ℕ → ℕ
+all_numbers n d = n * (d + 1)
 
 -- row a
 unfoldable pub row_of : ℕ → List ℕ → ℕ → List ℕ
@@ -10,7 +14,7 @@ row_of d memory a = take (d + 1) (drop (a * (d + 1)) memory)
 
 -- the loads in row a; none from n on
 abbrev pub loads_of_row : ℕ → ℕ → List ℕ → ℕ → List ℕ
-loads_of_row n d memory a = cond (nat_lt a n) (entries (row_of d memory a)) []
+loads_of_row n d memory a = if nat_lt a n then entries (row_of d memory a) else []
 
 -- the memory with another row a
 unfoldable pub with_row : ℕ → List ℕ → ℕ → List ℕ → List ℕ
@@ -36,7 +40,7 @@ both_changed change d memory a b =
 
 -- each of two different loads of n can be put into the row of the other, or taken out
 pub record BothAble (change : Change) (n d a b : ℕ) (memory : List ℕ) : Type 0 where
-  pub long : n * (d + 1) ≤ length memory
+  pub long : all_numbers n d ≤ length memory
   pub a_below : a < n
   pub b_below : b < n
   pub apart : a ≡ b → ⊥
@@ -48,4 +52,4 @@ pub record BothAble (change : Change) (n d a b : ℕ) (memory : List ℕ) : Type
 pub record BothChanged (change : Change) (n d a b : ℕ) (before after : List ℕ) : Type 0 where
   pub rows : BothAble change n d a b before → after ≡ both_changed (changed change) d before a b
   pub same_length : length after ≡ length before
-  pub beyond : drop (n * (d + 1)) after ≡ drop (n * (d + 1)) before
+  pub beyond : drop (all_numbers n d) after ≡ drop (all_numbers n d) before

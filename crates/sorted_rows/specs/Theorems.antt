@@ -1,9 +1,9 @@
 -- What holds of every book in rows that came from its making.
-use Rattle.std.specs.Prelude.{◌≡◌, ℕ, ◌+◌, ◌-◌, ◌*◌, ◌<◌, ◌≤◌, List, ◌∷◌, ◌++◌, length, None}
+use Rattle.std.specs.Prelude.{◌≡◌, ℕ, ◌-◌, ◌<◌, ◌≤◌, List, ◌∷◌, ◌++◌, length, None}
 use Rattle.std.specs.Prelude.{replicate, slice_index}
 use Rattle.std.specs.List.{filter, range_with_len}
 use Rattle.graph.specs.Graph.{Graph, degree}
-use Rattle.sorted_rows.specs.RowMemory.{row_of}
+use Rattle.sorted_rows.specs.RowMemory.{all_numbers, row_of}
 use Rattle.sorted_rows.specs.declared.SortedRows.{SortedRows}
 use Rattle.sorted_rows.specs.Rows.{rows_graph, rows_ledger, RowsMade, rows_fixed, Making}
 
@@ -26,7 +26,7 @@ pub record MemoryHolds (n d : ℕ) (g : Graph) (before after : List ℕ) : Type 
   pub same_size : g.size ≡ n
   pub same_length : length after ≡ length before
   pub rows : RowsHold d g after
-  pub beyond : (k : ℕ) → n * (d + 1) ≤ k → slice_index after k ≡ slice_index before k
+  pub beyond : (k : ℕ) → all_numbers n d ≤ k → slice_index after k ≡ slice_index before k
 
 -- from the making of s on, through all calls, up to t
 abbrev pub MemoryFollows : Type 0

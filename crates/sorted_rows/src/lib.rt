@@ -1,4 +1,4 @@
-//! A book of links in rows of equal length.
+//! A book of links in rows of equal length, one row for each load.
 #![tactic(auto)]
 
 ghost use Rattle.std.specs.Prelude.{◌≡◌, length, None, MatchOption, nat_lt};
@@ -7,11 +7,10 @@ ghost use Rattle.links.specs.Books.{Adds, Removes};
 ghost use Rattle.links.specs.Refusals.{Answers};
 ghost use Rattle.sorted_rows.specs.Row.{row_with, row_without};
 ghost use Rattle.sorted_rows.specs.RowMemory.{BothChanged};
-ghost use Rattle.sorted_rows.specs.Rows.{loads_of, rows_graph, rows_ledger, RowsMade, RowsFixed};
+ghost use Rattle.sorted_rows.specs.Rows.{loads_in_row, rows_graph, rows_ledger, RowsMade, RowsFixed};
 ghost use Rattle.sorted_rows.specs.Rows.{rows_fixed, checking, Making, Written};
 
-/// One row: its loads, the place of a load in it, and the change of it.
-pub mod row;
+mod row;
 /// What holds of every made book in rows.
 pub mod theorems;
 
@@ -83,7 +82,7 @@ impl<'a> SortedRows<'a> {
 impl SortedRows<'_> {
     // The loads in row a.
     fn row(&self, a: usize) -> &[u16]
-        ensures { result.now ≡ loads_of self.now a }
+        ensures { result.now ≡ loads_in_row self.now a }
     {
         row_loads(self.rows, self.size, self.row_limit, a)
     }
@@ -91,8 +90,8 @@ impl SortedRows<'_> {
     /// The index, among the loads of row a, of the first that is not above the load in front of it;
     /// `None` where they rise, as in each made book. Reads the loads of the row up to it.
     pub fn row_break(&self, a: usize) -> Option<usize>
-        ensures first { MatchOption result (Rises nat_lt (loads_of self.now a))
-            (λ i. FirstUnordered nat_lt (loads_of self.now a) i) }
+        ensures first { MatchOption result (Rises nat_lt (loads_in_row self.now a))
+            (λ i. FirstUnordered nat_lt (loads_in_row self.now a) i) }
         ensures none { RowsMade self.now → result ≡ None }
     {
         first_unordered(self.row(a))

@@ -1,5 +1,5 @@
-//! Memory in rows of equal length: in each row its count, then that many loads in rising order,
-//! then zeros.
+// Memory in rows of equal length: in each row its count, then that many loads in rising order,
+// then zeros.
 ghost use Rattle.std.specs.Prelude.{◌≡◌, ◌+◌, ◌*◌, ◌≤◌, length};
 ghost use Rattle.sorted_rows.specs.Row.{entries, place, Insertable, row_with, Removable, row_without, Able};
 ghost use Rattle.sorted_rows.specs.Row.{changed};
@@ -8,7 +8,7 @@ ghost use Rattle.sorted_rows.specs.RowMemory.{loads_of_row, RowChanged};
 /// What can be done with a load in a row.
 /// A closure in its place would need clauses in each function that hands it on.
 #[derive(Clone, Copy, PartialEq, Eq, Debug)]
-pub enum Change {
+pub(crate) enum Change {
     /// Put it in, where the row is not full.
     Insert,
     /// Take out the first load that is not below it, where there is one.
@@ -28,7 +28,7 @@ fn loads(row: &[u16]) -> &[u16]
 /// The loads of row a, of `size` rows of `row_limit` + 1 numbers; none where there is no such row.
 /// Of a row that the memory cuts short, the loads that are there. Copies nothing.
 #[tactic(auto, unfolding(crate::specs::RowMemory::row_of))]
-pub fn row_loads(rows: &[u16], size: u16, row_limit: u8, a: usize) -> &[u16]
+pub(crate) fn row_loads(rows: &[u16], size: u16, row_limit: u8, a: usize) -> &[u16]
     ensures { result.now ≡ loads_of_row size row_limit rows.now a }
 {
     if a >= usize::from(size) {
@@ -42,7 +42,7 @@ pub fn row_loads(rows: &[u16], size: u16, row_limit: u8, a: usize) -> &[u16]
 
 /// The index of the first load that is not below b; how many there are, if each is below. Reads the
 /// loads up to it.
-pub fn position(loads: &[u16], b: usize) -> usize
+pub(crate) fn position(loads: &[u16], b: usize) -> usize
     ensures first { result ≡ place loads.now b }
     ensures within { result ≤ length loads.now }
 {
@@ -95,7 +95,7 @@ fn remove(row: &mut [u16], b: u16)
 /// Puts b into row a where the row is not full, or takes the first load that is not below b out of
 /// it where it has one. Else, and where the memory ends before the row does, nothing is written.
 /// Writes within the row alone, its count and the loads from b on.
-pub fn change_row(rows: &mut [u16], row_limit: u8, a: u16, b: u16, change: Change)
+pub(crate) fn change_row(rows: &mut [u16], row_limit: u8, a: u16, b: u16, change: Change)
     ensures { RowChanged (Able change) (changed change) row_limit a b rows.old rows.new }
 {
     let width = usize::from(row_limit) + 1;

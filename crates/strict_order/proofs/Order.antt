@@ -30,14 +30,6 @@ nat_before = λ i x y. same x y i
     same : (x y : ℕ) → is_lt (nat_cmp x y) ≡ nat_lt x y
     same x y = grind (arith, nat_tests)
 
-pub nat_strict : StrictTotal {X = ℕ} ◌≡◌ nat_lt
-nat_strict =
-    record {
-      irreflexive = λ x. grind (arith, nat_tests);
-      transitive = λ x y z e f. grind (arith, nat_tests);
-      total = λ x y e f. grind (arith, nat_tests);
-    }
-
 module _ {X : Type 0} (before : X → X → Bool) (transitive : (x y z : X) → before x y ≡ true → before y z ≡ true → before x z ≡ true) (xs : List X) where
   -- in a transitive order, neighbours in order put the whole list in order
   later_from_next : InOrder before xs (length xs) → (i j : ℕ) (d : X) → i < j → j < length xs → before (get_or xs i d) (get_or xs j d) ≡ true

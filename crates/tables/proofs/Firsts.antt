@@ -2,12 +2,12 @@
 use Rattle.std.proofs.Common.{◌≡◌, ℕ, zero, suc, ◌+◌, ◌<◌, ◌≤◌, Bool, true, false, Some, None, Option, sym, ap, ◌∙◌, subst, ap₂, inl, inr, arith}
 use mathlib.Core.Path.{fun_ext}
 use Rattle.std.proofs.lemmas.Bool.{cases_lt, cases_eq, cases_Bool, cond-true, cond-false, and_left, and_parts}
-use Rattle.graph.specs.Graph.{Graph, Simple, First, count}
+use Rattle.graph.specs.Graph.{Graph, Simple, First, count, NextBelow}
 use Rattle.graph.specs.Pairs.{is_free}
 use Rattle.graph.proofs.Partners.{none_is}
 use Rattle.graph.proofs.Paths.{linked_apart}
 use Rattle.links.specs.declared.members.MembersInOrder.{MembersInOrder}
-use Rattle.links.specs.InOrder.{NextBelow, past, GivesNext}
+use Rattle.links.specs.InOrder.{past, GivesNext}
 use Rattle.ranking.specs.First.{earlier}
 use Rattle.rules.specs.First.{first}
 use Rattle.rules.specs.Repair.{Ranking, free_link, paired_found, match_free}

@@ -1,7 +1,7 @@
-use Rattle.std.proofs.Common.{◌≡◌, ℕ, ◌+◌, ◌<◌, true, false, None, sym, ap, ◌∙◌, subst, arith, rules}
+use Rattle.std.proofs.Common.{◌≡◌, ℕ, ◌+◌, ◌<◌, true, None, sym, ap, ◌∙◌, subst, arith, rules}
 use Rattle.links.specs.Books.{adding, unless_room}
 use Rattle.links.specs.declared.tally.Tally.{Tally}
-use Rattle.links.proofs.Reasons.{Addable, adding_none, open_refused, refused_by, kept_same}
+use Rattle.links.proofs.Reasons.{Addable, adding_none, add_refused, add_not_open}
 use Rattle.bit_matrix.specs.declared.BitMatrix.{BitMatrix}
 use Rattle.bit_matrix.specs.Matrix.{matrix_graph, MatrixMade, matrix_ledger, rewritten, is_link_place, Written}
 use Rattle.bit_matrix.proofs.Full.{adding_open}
@@ -10,22 +10,15 @@ use Rattle.bit_matrix.proofs.BitMatrixBook.add.Goals as goal
 
 pub returns-in_err-check_open-clause-book : goal.returns-in_err-check_open-clause-book
 returns-in_err-check_open-clause-book c =
-    record {
-      kept = kept_same c.from_residual.result c.args.self.now;
-      answers = λ made.
-          refused_by _ c.in_err-check_open.field-0.0 c.from_residual.result _ c.from_residual.ensures.1
-          (open_refused (matrix_graph c.args.self.now) false c.args.a c.args.b _ _ (c.in_err-check_open.ensures made));
-    }
+    add_not_open matrix_graph MatrixMade matrix_ledger c.args.self.now c.args.a c.args.b
+    c.in_err-check_open.field-0.0 c.from_residual.result c.from_residual.ensures.1 c.in_err-check_open.ensures
 
 pub returns-in_err-check_room-clause-book : goal.returns-in_err-check_room-clause-book
 returns-in_err-check_room-clause-book c =
-    record {
-      kept = kept_same c.from_residual-in_err-check_room.result c.args.self.now;
-      answers = λ made.
-          refused_by _ c.in_err-check_room.field-0.0 c.from_residual-in_err-check_room.result _ c.from_residual-in_err-check_room.ensures.1
-          (adding_open c.args.self.now made c.args.a c.args.b (c.in_ok-check_open.ensures made).0
-          ∙ ap (λ (room : ℕ). unless_room room None) (sym (c.room.ensures made)) ∙ c.in_err-check_room.ensures);
-    }
+    add_refused matrix_graph MatrixMade matrix_ledger c.args.self.now c.args.a c.args.b
+    c.in_err-check_room.field-0.0 c.from_residual-in_err-check_room.result c.from_residual-in_err-check_room.ensures.1
+    (λ made. adding_open c.args.self.now made c.args.a c.args.b (c.in_ok-check_open.ensures made).0
+    ∙ ap (λ (room : ℕ). unless_room room None) (sym (c.room.ensures made)) ∙ c.in_err-check_room.ensures)
 
 pub returns : goal.returns
 returns c =

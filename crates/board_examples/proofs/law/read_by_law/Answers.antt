@@ -1,6 +1,7 @@
 use Rattle.std.proofs.Common.{ℕ, List, [], ◌∷◌, Ok, Err, refl, arith}
 use Rattle.graph.specs.Graph.{no_links}
-use Rattle.rules.specs.Boards.{fresh_ledger, played_by}
+use Rattle.links.specs.Books.{fresh_ledger}
+use Rattle.rules.specs.Boards.{played_by}
 use Rattle.rules.specs.Calls.{Position, unlink, withdraw, after, opened}
 use Rattle.rules.specs.Repair.{Ranking}
 use Rattle.board.specs.Runs.{none, more}
@@ -15,7 +16,7 @@ pairs = (0, 1) ∷ (2, 3) ∷ (0, 2) ∷ (1, 3) ∷ (1, 5) ∷ (3, 4) ∷ []
 
 -- the positions, by the rankings of the boards
 abbrev start : Ranking → Position
-start order = opened order (no_links 24) (fresh_ledger 24 30)
+start order = opened order (no_links 24) (fresh_ledger 24 23 30)
 
 abbrev linked : Ranking → Ranking → Position
 linked order first = played_by first (linkings pairs) (start order)
@@ -31,7 +32,7 @@ returns-in_err-link_all g c = λ is_fresh.
     let first = c.open-board.result in
     let before = g.R.Ranking.before in
     let x₀ = start (before c.args.ranking) in
-    let at₀ = at_opening c.args.book c.args.ranking first (no_links 24) (fresh_ledger 24 30) is_fresh c.open-board.ensures.opens in
+    let at₀ = at_opening c.args.book c.args.ranking first (no_links 24) (fresh_ledger 24 23 30) is_fresh c.open-board.ensures.opens in
     let e = c.in_err-link_all.field-0.0 in
     absurd (not_refused e refl (links_refused first c.link_all.new.board x₀ at₀ pairs e c.in_err-link_all.ensures))
 
@@ -40,7 +41,7 @@ returns-in_err-linked g c = λ is_fresh.
     let first = c.open-board.result in
     let before = g.R.Ranking.before in
     let x₀ = start (before c.args.ranking) in
-    let at₀ = at_opening c.args.book c.args.ranking first (no_links 24) (fresh_ledger 24 30) is_fresh c.open-board.ensures.opens in
+    let at₀ = at_opening c.args.book c.args.ranking first (no_links 24) (fresh_ledger 24 23 30) is_fresh c.open-board.ensures.opens in
     let second = c.link_all.new.board in
     let x₁ = linked (before c.args.ranking) (before first.ranking) in
     let at₁ = at_links first second x₀ at₀ pairs c.in_ok-link_all.ensures in
@@ -52,7 +53,7 @@ returns-in_err-unlink g c = λ is_fresh.
     let first = c.open-board.result in
     let before = g.R.Ranking.before in
     let x₀ = start (before c.args.ranking) in
-    let at₀ = at_opening c.args.book c.args.ranking first (no_links 24) (fresh_ledger 24 30) is_fresh c.open-board.ensures.opens in
+    let at₀ = at_opening c.args.book c.args.ranking first (no_links 24) (fresh_ledger 24 23 30) is_fresh c.open-board.ensures.opens in
     let second = c.link_all.new.board in
     let x₁ = linked (before c.args.ranking) (before first.ranking) in
     let at₁ = at_links first second x₀ at₀ pairs c.in_ok-link_all.ensures in
@@ -64,7 +65,7 @@ returns-in_err-unlinked g c = λ is_fresh.
     let first = c.open-board.result in
     let before = g.R.Ranking.before in
     let x₀ = start (before c.args.ranking) in
-    let at₀ = at_opening c.args.book c.args.ranking first (no_links 24) (fresh_ledger 24 30) is_fresh c.open-board.ensures.opens in
+    let at₀ = at_opening c.args.book c.args.ranking first (no_links 24) (fresh_ledger 24 23 30) is_fresh c.open-board.ensures.opens in
     let second = c.link_all.new.board in
     let x₁ = linked (before c.args.ranking) (before first.ranking) in
     let at₁ = at_links first second x₀ at₀ pairs c.in_ok-link_all.ensures in
@@ -79,7 +80,7 @@ returns-in_err-withdraw g c = λ is_fresh.
     let first = c.open-board.result in
     let before = g.R.Ranking.before in
     let x₀ = start (before c.args.ranking) in
-    let at₀ = at_opening c.args.book c.args.ranking first (no_links 24) (fresh_ledger 24 30) is_fresh c.open-board.ensures.opens in
+    let at₀ = at_opening c.args.book c.args.ranking first (no_links 24) (fresh_ledger 24 23 30) is_fresh c.open-board.ensures.opens in
     let second = c.link_all.new.board in
     let x₁ = linked (before c.args.ranking) (before first.ranking) in
     let at₁ = at_links first second x₀ at₀ pairs c.in_ok-link_all.ensures in
@@ -94,7 +95,7 @@ returns-in_err-withdrawn g c = λ is_fresh.
     let first = c.open-board.result in
     let before = g.R.Ranking.before in
     let x₀ = start (before c.args.ranking) in
-    let at₀ = at_opening c.args.book c.args.ranking first (no_links 24) (fresh_ledger 24 30) is_fresh c.open-board.ensures.opens in
+    let at₀ = at_opening c.args.book c.args.ranking first (no_links 24) (fresh_ledger 24 23 30) is_fresh c.open-board.ensures.opens in
     let second = c.link_all.new.board in
     let x₁ = linked (before c.args.ranking) (before first.ranking) in
     let at₁ = at_links first second x₀ at₀ pairs c.in_ok-link_all.ensures in
@@ -112,7 +113,7 @@ returns g c = λ is_fresh.
     let first = c.open-board.result in
     let before = g.R.Ranking.before in
     let x₀ = start (before c.args.ranking) in
-    let at₀ = at_opening c.args.book c.args.ranking first (no_links 24) (fresh_ledger 24 30) is_fresh c.open-board.ensures.opens in
+    let at₀ = at_opening c.args.book c.args.ranking first (no_links 24) (fresh_ledger 24 23 30) is_fresh c.open-board.ensures.opens in
     let second = c.link_all.new.board in
     let x₁ = linked (before c.args.ranking) (before first.ranking) in
     let at₁ = at_links first second x₀ at₀ pairs c.in_ok-link_all.ensures in

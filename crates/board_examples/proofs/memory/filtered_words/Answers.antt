@@ -6,7 +6,7 @@ use Rattle.bit_matrix.specs.declared.BitMatrix.{BitMatrix}
 use Rattle.class_filter.specs.declared.ClassFilter.{ClassFilter}
 use Rattle.bit_matrix.specs.Matrix.{matrix_graph, MatrixFixed, matrix_fixed, Making}
 use Rattle.class_filter.specs.Classes.{filtered, filtered_ledger, FilterFixed, filter_fixed}
-use Rattle.rules.specs.Boards.{fresh_ledger}
+use Rattle.links.specs.Books.{fresh_ledger}
 use Rattle.rules.specs.Calls.{Position, unlink}
 use Rattle.board.specs.Runs.{none, more}
 use Rattle.board_examples.proofs.Brought.{added_stands, behind}
@@ -20,8 +20,8 @@ use Rattle.board_examples.proofs.memory.filtered_words.Goals as goal
 pub returns-clause-words : goal.returns-clause-words
 returns-clause-words c = λ granted.
     let making = (subst (λ (o : Option Reason). Making o 3 3 c.args.words.now c.new-below.result) granted c.new-below.ensures.making).0 in
-    let once = added_stands c.new-below.result c.add.new.self (no_links 3) (fresh_ledger 3 3) 0 1 c.add.result refl making c.add.ensures.book in
-    let twice = added_stands c.add.new.self c.add-2.new.self (added (no_links 3) 0 1) (lowered (fresh_ledger 3 3) 0 1) 1 2 c.add-2.result refl once c.add-2.ensures.book in
+    let once = added_stands c.new-below.result c.add.new.self (no_links 3) (fresh_ledger 3 2 3) 0 1 c.add.result refl making c.add.ensures.book in
+    let twice = added_stands c.add.new.self c.add-2.new.self (added (no_links 3) 0 1) (lowered (fresh_ledger 3 2 3) 0 1) 1 2 c.add-2.result refl once c.add-2.ensures.book in
     let book = c.new-book.result in
     let over = behind c.add-2.new.self book brought allowed hides twice c.new-book.ensures.stands in
     let first = c.open-board.result in

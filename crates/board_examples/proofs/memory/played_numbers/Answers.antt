@@ -4,7 +4,7 @@ use Rattle.links.specs.Books.{Stands}
 use Rattle.links.specs.Refusals.{Reason}
 use Rattle.sorted_rows.specs.declared.SortedRows.{SortedRows}
 use Rattle.sorted_rows.specs.Rows.{rows_graph, RowsMade, rows_ledger, RowsFixed, rows_fixed, Making}
-use Rattle.rules.specs.Boards.{fresh_ledger}
+use Rattle.links.specs.Books.{fresh_ledger}
 use Rattle.board.specs.Runs.{none}
 use Rattle.board_examples.specs.Lent.{links_left}
 use Rattle.board_examples.proofs.Lent.{numbers_left}
@@ -21,8 +21,8 @@ returns c =
       lender = ap (λ (s : SortedRows). s.rows.ghost_name) c.into_book.ensures ∙ ap (λ (f : RowsFixed). f.lender) stays ∙ c.new.ensures.lender;
       numbers = λ granted.
           let new = (subst (λ (o : Option Reason). Making o 6 5 8 c.args.numbers.now c.new.result) granted c.new.ensures.making).0 in
-          let making : Stands rows_graph RowsMade rows_ledger c.new.result (no_links 6) (fresh_ledger 6 8) = record { graph_is = new.graph; ledger_is = new.ledger; still_made = c.new.ensures.made } in
-          let opened = at_opening c.new.result _ first (no_links 6) (fresh_ledger 6 8) making c.open-board.ensures.opens in
+          let making : Stands rows_graph RowsMade rows_ledger c.new.result (no_links 6) (fresh_ledger 6 5 8) = record { graph_is = new.graph; ledger_is = new.ledger; still_made = c.new.ensures.made } in
+          let opened = at_opening c.new.result _ first (no_links 6) (fresh_ledger 6 5 8) making c.open-board.ensures.opens in
           ap (λ (s : SortedRows). s.rows.now) c.into_book.ensures
           ∙ numbers_left 6 5 8 _ c.args.numbers.now c.new.result last.book links_left granted c.new.ensures.making stays (c.play_out.ensures.graph_is opened.stands opened.position_is) moment.stands.book_made c.memory_follows.ensures;
     }

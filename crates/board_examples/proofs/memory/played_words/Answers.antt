@@ -3,7 +3,7 @@ use Rattle.graph.specs.Graph.{no_links}
 use Rattle.links.specs.Refusals.{Reason}
 use Rattle.bit_matrix.specs.declared.BitMatrix.{BitMatrix}
 use Rattle.bit_matrix.specs.Matrix.{MatrixFixed, matrix_fixed, Making}
-use Rattle.rules.specs.Boards.{fresh_ledger}
+use Rattle.links.specs.Books.{fresh_ledger}
 use Rattle.board.specs.Runs.{none}
 use Rattle.board_examples.specs.Lent.{links_left, WordsAre}
 use Rattle.board_examples.proofs.Lent.{words_left}
@@ -21,7 +21,7 @@ returns c =
       lender = ap (λ (m : BitMatrix). m.words.ghost_name) c.into_book.ensures ∙ ap (λ (f : MatrixFixed). f.lender) stays ∙ c.new.ensures.lender;
       words = λ granted.
           let making = (subst (λ (o : Option Reason). Making o 6 8 c.args.words.now c.new.result) granted c.new.ensures.making).0 in
-          let opened = at_opening c.new.result _ first (no_links 6) (fresh_ledger 6 8) making c.open-board.ensures.opens in
+          let opened = at_opening c.new.result _ first (no_links 6) (fresh_ledger 6 5 8) making c.open-board.ensures.opens in
           subst (λ (m : BitMatrix). WordsAre (4 ∷ 32 ∷ 1 ∷ 0 ∷ 0 ∷ 2 ∷ []) c.args.words.now m.words.now) (sym c.into_book.ensures)
           (words_left 6 8 _ c.args.words.now c.new.result last.book links_left (4 ∷ 32 ∷ 1 ∷ 0 ∷ 0 ∷ 2 ∷ []) granted c.new.ensures.making stays (c.play_out.ensures.graph_is opened.stands opened.position_is) moment.stands.book_made c.memory_follows.ensures six_words);
     }

@@ -1,5 +1,5 @@
 use Rattle.std.proofs.Common.{ℕ, None, sym, ◌∙◌, subst}
-use Rattle.links.specs.InOrder.{NextBelow}
+use Rattle.graph.specs.Graph.{NextBelow}
 use Rattle.repair.proofs.Bests.{member_takes, member_skips, member_ends, member_on, step_next}
 use Rattle.repair.proofs.best.best_of.Goals as goal
 

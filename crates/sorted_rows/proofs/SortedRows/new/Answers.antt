@@ -1,6 +1,6 @@
 use Rattle.std.proofs.Common.{◌≡◌, ℕ, ◌+◌, ◌-◌, ◌*◌, length, take, refl, ◌∙◌, arith}
 use Rattle.std.proofs.lemmas.List.{length-take-le}
-use Rattle.sorted_rows.proofs.BookLaws.{empty_made, empty_fresh, cleared, checked, making_granted, making_refused}
+use Rattle.sorted_rows.proofs.MadeRows.{empty_made, empty_fresh, cleared, checked, making_granted, making_refused}
 use Rattle.sorted_rows.proofs.SortedRows.new.Goals as goal
 
 pub returns-in-Ok : goal.returns-in-Ok

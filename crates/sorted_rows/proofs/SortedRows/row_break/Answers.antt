@@ -1,7 +1,7 @@
 use Rattle.std.proofs.Common.{ℕ, ltb, Bool, List, subst, MatchOption}
 use Rattle.strict_order.specs.StrictOrder.{Rises, FirstUnordered}
 use Rattle.strict_order.proofs.Order.{nat_before}
-use Rattle.sorted_rows.proofs.BookLaws.{no_break}
+use Rattle.sorted_rows.proofs.MadeRows.{no_break}
 use Rattle.sorted_rows.proofs.SortedRows.row_break.Goals as goal
 
 pub returns : goal.returns

@@ -1,29 +1,21 @@
-use Rattle.std.proofs.Common.{false, ◌∙◌, arith, rules}
-use Rattle.links.proofs.Reasons.{adding_none, adding_left, open_refused, refused_by, kept_same}
+use Rattle.std.proofs.Common.{◌∙◌, arith, rules}
+use Rattle.links.proofs.Reasons.{adding_none, adding_left, add_refused, add_not_open}
 use Rattle.sorted_rows.specs.declared.row.Change.TheVariants.{Insert}
 use Rattle.sorted_rows.specs.Rows.{rows_graph, rows_ledger, RowsMade}
-use Rattle.sorted_rows.proofs.BookAnswers.{stands_after}
-use Rattle.sorted_rows.proofs.BookChange.{after_adding}
+use Rattle.sorted_rows.proofs.LinkChange.{after_adding, stands_after}
 use Rattle.sorted_rows.proofs.SortedRowsBook.add.Goals as goal
 
 pub returns-in_err-check_open-clause-book : goal.returns-in_err-check_open-clause-book
 returns-in_err-check_open-clause-book c =
-    record {
-      kept = kept_same c.from_residual.result c.args.self.now;
-      answers = λ made.
-          refused_by _ c.in_err-check_open.field-0.0 c.from_residual.result _ c.from_residual.ensures.1
-          (open_refused (rows_graph c.args.self.now) false c.args.a c.args.b _ _ (c.in_err-check_open.ensures made));
-    }
+    add_not_open rows_graph RowsMade rows_ledger c.args.self.now c.args.a c.args.b
+    c.in_err-check_open.field-0.0 c.from_residual.result c.from_residual.ensures.1 c.in_err-check_open.ensures
 
 pub returns-in_err-check_left-clause-book : goal.returns-in_err-check_left-clause-book
 returns-in_err-check_left-clause-book c =
-    record {
-      kept = kept_same c.from_residual-in_err-check_left.result c.args.self.now;
-      answers = λ made.
-          refused_by _ c.in_err-check_left.field-0.0 c.from_residual-in_err-check_left.result _ c.from_residual-in_err-check_left.ensures.1
-          (adding_left (rows_graph c.args.self.now) (rows_ledger c.args.self.now) c.args.a c.args.b _ _ _ (c.in_ok-check_open.ensures made).0 (c.spare.ensures made) (c.spare-2.ensures made) (c.room.ensures made)
-          ∙ c.in_err-check_left.ensures);
-    }
+    add_refused rows_graph RowsMade rows_ledger c.args.self.now c.args.a c.args.b
+    c.in_err-check_left.field-0.0 c.from_residual-in_err-check_left.result c.from_residual-in_err-check_left.ensures.1
+    (λ made. adding_left (rows_graph c.args.self.now) (rows_ledger c.args.self.now) c.args.a c.args.b _ _ _ (c.in_ok-check_open.ensures made).0 (c.spare.ensures made) (c.spare-2.ensures made) (c.room.ensures made)
+    ∙ c.in_err-check_left.ensures)
 
 pub returns : goal.returns
 returns c =

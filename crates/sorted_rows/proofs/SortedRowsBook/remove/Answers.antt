@@ -2,8 +2,7 @@ use Rattle.std.proofs.Common.{rules}
 use Rattle.links.proofs.Reasons.{removing_none}
 use Rattle.sorted_rows.specs.declared.row.Change.TheVariants.{Remove}
 use Rattle.sorted_rows.specs.Rows.{RowsMade}
-use Rattle.sorted_rows.proofs.BookAnswers.{stands_after}
-use Rattle.sorted_rows.proofs.BookChange.{after_removing}
+use Rattle.sorted_rows.proofs.LinkChange.{after_removing, stands_after}
 use Rattle.sorted_rows.proofs.SortedRowsBook.remove.Goals as goal
 
 pub returns : goal.returns

@@ -1,6 +1,6 @@
 use Rattle.std.proofs.Common.{ℕ, ◌-◌, ◌<◌, length, sym, ap, ◌∙◌, ap₂, arith}
 use Rattle.std.proofs.lemmas.Bool.{lt-ltb, cond-true}
-use Rattle.sorted_rows.proofs.BookLaws.{length_loads}
+use Rattle.sorted_rows.proofs.MadeRows.{length_loads}
 use Rattle.sorted_rows.proofs.SortedRowsBook.spare.Goals as goal
 
 pub returns : goal.returns

@@ -1,5 +1,5 @@
 use Rattle.std.proofs.Common.{length, sym, ap, ◌∙◌}
-use Rattle.sorted_rows.proofs.BookLaws.{degree_is}
+use Rattle.sorted_rows.proofs.MadeRows.{degree_is}
 use Rattle.sorted_rows.proofs.SortedRowsLinks.degree.Goals as goal
 
 pub returns : goal.returns

@@ -1,5 +1,5 @@
 use Rattle.std.proofs.Common.{◌≡◌, ◌&&◌, eqb, ltb, length, get_or, rules}
-use Rattle.sorted_rows.proofs.BookLaws.{found_linked}
+use Rattle.sorted_rows.proofs.MadeRows.{found_linked}
 use Rattle.sorted_rows.proofs.SortedRowsLinks.linked.Goals as goal
 
 pub returns : goal.returns

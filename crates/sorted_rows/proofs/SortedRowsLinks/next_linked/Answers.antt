@@ -1,5 +1,5 @@
 use Rattle.std.proofs.Common.{rules}
-use Rattle.sorted_rows.proofs.BookLaws.{found_next}
+use Rattle.sorted_rows.proofs.MadeRows.{found_next}
 use Rattle.sorted_rows.proofs.SortedRowsLinks.next_linked.Goals as goal
 
 pub returns : goal.returns

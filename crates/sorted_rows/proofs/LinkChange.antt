@@ -1,4 +1,4 @@
--- A book in rows with a link more or less.
+-- Sorted rows with a link more or less, and the book that they then are.
 use Rattle.std.proofs.Common.{◌≡◌, ℕ, ◌+◌, ◌-◌, ◌*◌, ◌<◌, ◌≤◌, Bool, true, false, cond, not, ◌&&◌, ◌||◌, eqb, ltb, List, [], length, get_or, sym, refl, ap, ◌∙◌, subst, ap₂, ⊎_elim, arith}
 use mathlib.Core.Bool.{or-false, and-true}
 use Rattle.std.proofs.lemmas.Bool.{cases_lt, cases_eq, lt-ltb, le-ltb, eq-eqb, ne_eqb, and_right}
@@ -6,17 +6,19 @@ use Rattle.graph.specs.Graph.{Graph, Simple, is_pair, added, removed, link_count
 use Rattle.graph.proofs.Counts.{not_pair}
 use Rattle.graph.proofs.Changes.{link_count_added, link_count_removed}
 use Rattle.graph.proofs.Ends.{pair_swap, pair_past}
-use Rattle.links.specs.Books.{Ledger, lowered, raised}
+use Rattle.links.specs.Books.{Ledger, Stands, lowered, raised}
+use Rattle.links.specs.declared.tally.Tally.{Tally}
 use Rattle.links.proofs.Spares.{left, left_less, left_more}
 use Rattle.links.proofs.Reasons.{TwoLoads, Addable, Removable as Unlinkable}
 use Rattle.sorted_rows.specs.Row.{entries, has, row_with, Removable, row_without, changed, RowMade}
-use Rattle.sorted_rows.specs.RowMemory.{loads_of_row, row_of, with_row, both_changed, BothAble}
+use Rattle.sorted_rows.specs.RowMemory.{loads_of_row, row_of, with_row, both_changed, BothAble, BothChanged}
 use Rattle.sorted_rows.specs.declared.row.Change.{Change}
 use Rattle.sorted_rows.specs.declared.row.Change.TheVariants.{Insert, Remove}
-use Rattle.sorted_rows.specs.Rows.{graph_of, ledger_of, Made}
+use Rattle.sorted_rows.specs.Rows.{graph_of, ledger_of, Made, rows_graph, rows_ledger, RowsMade}
+use Rattle.sorted_rows.specs.declared.SortedRows.{SortedRows}
 use Rattle.sorted_rows.proofs.RowMemory.{TwoRows, two_rows, row_end}
 use Rattle.sorted_rows.proofs.RowLaws.{RowAfter, put, cut, insertable, with_load, removable, without_load}
-use Rattle.sorted_rows.proofs.BookLaws.{loads_in, long_row, linked_is, simple, spare_is, degree_within}
+use Rattle.sorted_rows.proofs.MadeRows.{loads_in, long_row, linked_is, simple, spare_is, degree_within}
 
 -- ---- two loads among all
 
@@ -214,3 +216,23 @@ module _ (n d limit total : ℕ) (memory : List ℕ) (made : Made n d limit tota
 
   pub after_removing : Unlinkable (graph_of n d memory) a b → BookAfter Remove n d limit (total - 1) memory a b (removed (graph_of n d memory) a b) (raised (ledger_of n d limit total memory) a b)
   after_removing able = shrunk n d limit total memory made a b able.two.a_below able.two.b_below able.two.apart able.on
+
+-- ---- the book, as the code makes it
+
+-- the book t, with k links and the changed memory of a book with these limits
+pub stands_after : (change : Change) (t : SortedRows) (limit k : ℕ) (memory : List ℕ) (a b : ℕ) (g : Graph) (l : Ledger) → BookAfter change t.size t.row_limit limit k memory a b g l → t.tally ≡ record { limit = limit; count = k } → BothChanged change t.size t.row_limit a b memory t.rows.now → Stands rows_graph RowsMade rows_ledger t g l
+stands_after change t limit k memory a b g l after et both =
+    record {
+      graph_is = ap (graph_of n d) em ∙ after.graph;
+      ledger_is = ap₂ (λ (tally : Tally) (m : List ℕ). ledger_of n d tally.limit tally.count m) et em ∙ after.ledger;
+      still_made = subst (λ (tally : Tally). Made n d tally.limit tally.count t.rows.now) (sym et) (subst (Made n d limit k) (sym em) after.made);
+    }
+  where
+    n : ℕ
+    n = t.size
+
+    d : ℕ
+    d = t.row_limit
+
+    em : t.rows.now ≡ both_changed (changed change) d memory a b
+    em = both.rows after.able
