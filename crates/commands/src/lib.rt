@@ -123,7 +123,8 @@ fn decode(rest: &[u8]) -> Result<Command, Refused>
 /// Whether a stream is short enough to be read: refused with 3 (stream) where it has more than
 /// 65,536 bytes. Looks at its length alone.
 pub fn check_length(stream: &[u8]) -> Result<(), Refused>
-    ensures { Answers (unless_short stream.now None) result (λ _. Unit {0}) }
+    ensures checks { Answers (unless_short stream.now None) result (λ _. Unit {0}) }
+    ensures longest { LONGEST_STREAM ≡ 65536 }
 {
     if stream.len() > LONGEST_STREAM {
         return Err(Refusal::WrongLength.by(Layer::Stream));

@@ -140,22 +140,6 @@ module _ {B R F : Type 0} {graph : B → Graph} {made : B → Type 0} {ledger : 
             (record { writes = writes; position_is = refl; stands = stood });
       }
 
-  pub steps_ended : {from : List ℕ} → stepping stream from ≡ None → length stream ≤ 65536 → Reads stream place (Ok None) →
-      Steps graph made ledger fixed before s stream place from (Ok (record { place = place; written = 0 })) s from
-  steps_ended {from} none short reads =
-      let x = position graph ledger s in
-      let found = found_end stream place short reads in
-      let p : Stepped = record { place = place; written = 0 } in
-      let writes : WritesLine [] place from p from = record { place_is = refl; written_is = refl; out_is = refl; short = omega arith } in
-      record {
-        board_kept = tt;
-        out_kept = tt;
-        answers = (none, subst (λ (f : Found). Takes graph made ledger fixed before f s place from p s from) (sym found) (refl, writes));
-        by_rules = λ stood.
-            subst (λ (f : Found). Makes graph made ledger fixed before (step_of (before s.ranking) x place f) from p s from) (sym found)
-            (record { writes = writes; position_is = refl; stands = stood });
-      }
-
   pub steps_written : {t : Board B R} {from out : List ℕ} {n : ℕ} (next : ℕ) (reply : Reply) → stepping stream from ≡ None → Turns graph made ledger fixed before s stream place reply next t →
       Writes (line reply) from (Ok n) out → length (line reply) ≤ 19 → Steps graph made ledger fixed before s stream place from (Ok (record { place = next; written = n })) t out
   steps_written {t} {from} {out} {n} next reply none turns writes short =
