@@ -17,7 +17,7 @@ Tells made graph s answer r =
 
 -- r is the first path of those from a free load that `answers` tells of, with these partners of n
 -- loads
-abbrev pub FirstPath : {A : Type 0} → ℕ → Partners → (ℕ → Option A → Type 0) → Option A → Type 0
-FirstPath {A} n p answers r =
+abbrev pub LowestPath : {A : Type 0} → ℕ → Partners → (ℕ → Option A → Type 0) → Option A → Type 0
+LowestPath {A} n p answers r =
     (path_at : ℕ → Option A) → ((a : ℕ) (o : Option A) → answers a o → o ≡ path_at a)
     → r ≡ lowest_path n p path_at

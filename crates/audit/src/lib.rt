@@ -7,7 +7,7 @@ ghost use Rattle.graph.specs.Pairs.{is_free};
 ghost use Rattle.audit.specs.Claims.{claimed, returned};
 ghost use Rattle.audit.specs.Example.{MiddleClaimed};
 ghost use Rattle.audit.specs.Soundness.{SoundWhen};
-ghost use Rattle.audit.specs.Steps.{Tells, FirstPath};
+ghost use Rattle.audit.specs.Steps.{Tells, LowestPath};
 ghost use Rattle.audit.specs.Verdicts.{is_linked, lowest_not_returned, lowest_not_linked};
 ghost use Rattle.audit.specs.Verdicts.{lowest_end, path_of_one_at, path_over_at, path_of_three_at};
 ghost use Rattle.audit.specs.Verdicts.{meaning, verdict, Audits};
@@ -67,7 +67,7 @@ impl fmt::Display for Verdict {
     }
 }
 
-/// The claim of a load that has no partner.
+/// The claim of a load that has no partner: 65,535, which is no load.
 pub const NO_PARTNER: u16 = 65535;
 
 // Links, and the partner that each load claims.
@@ -154,7 +154,7 @@ impl<L: Links> Claimed<'_, L> {
     // The first path that `path_from` finds at a free load, from the lowest one on.
     fn first_path<P, F: Fn(usize) -> Option<P>>(&self, path_from: F) -> Option<P>
         requires { F.IsAlwaysCallable path_from }
-        ensures { FirstPath (length self.now.claims.now) (claimed self.now.claims.now)
+        ensures { LowestPath (length self.now.claims.now) (claimed self.now.claims.now)
             (F.post path_from) result }
     {
         (0..self.claims.len()).find_map(|a| {
@@ -186,8 +186,19 @@ impl<L: Links> Claimed<'_, L> {
     }
 }
 
-/// Whether the claims, one for each load, are sound, or what their first fault is. A claim of 65535
-/// is for no partner.
+/// Judges claimed partners: they are sound, or what their first fault is. `claims` has a number for
+/// each load: the partner that it claims, or `NO_PARTNER`. Nothing is changed.
+///
+/// The faults are looked for in the order of the verdicts: a claim that is not returned, then a
+/// partner that is not linked, then an augmenting path of one link, then one of three. Of each kind
+/// the first is the one at the lowest load, and of paths that begin at one load the one that goes
+/// on with the lowest.
+///
+/// Refused with 3 (board) where there are more or fewer claims than loads. Nothing else is refused.
+///
+/// Looks at each claim, and asks for one link of each load with a partner. For the paths it goes
+/// over the links of each free load, and at each of these links over those of the partner found
+/// there.
 pub fn audit<L: Links>(links: &L, claims: &[u16]) -> Result<Verdict, Refused>
     ensures value { L.Links.made links.now → Audits (L.Links.graph links.now) claims.now result }
     ensures sound { L.Links.made links.now → SoundWhen (L.Links.graph links.now) claims.now result }

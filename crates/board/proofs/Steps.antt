@@ -98,9 +98,6 @@ module _ {B R : Type 0} (graph : B → Graph) (made : B → Type 0) (ledger : B 
       };
     }
 
-    pub refused_steps : (e : Refused) → (made s.book → reason x c ≡ Some (told e)) → Steps graph made ledger fixed before s c (Err e) s
-    refused_steps e why = same_steps (Err e) (λ m. refused_unchanged order x c (told e) (why m)) why (λ _. tt)
-
     pub question_steps : is_question c ≡ true → (r : Result (Answer c) Refused) → (made s.book → Answers (reason x c) r (λ _. Unit {0})) →
         (Stands graph made ledger s → IfOk r (λ v. v ≡ answer x c)) → Steps graph made ledger fixed before s c r s
     question_steps asks r = same_steps r (λ _. question_same order x c asks)

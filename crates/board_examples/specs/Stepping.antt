@@ -1,5 +1,6 @@
 -- Commands of a stream carried out on any board, made or not.
-use Rattle.std.specs.Prelude.{◌≡◌, ℕ, ◌+◌, Bool, false, cond, List, length, None, Result, is_none}
+use Rattle.std.specs.Prelude.{◌≡◌, ℕ, ◌+◌, Bool, false, List, length, None, Result, is_none}
+use Rattle.std.specs.Prelude.{if◌then◌else◌}
 use Rattle.graph.specs.Graph.{Graph}
 use Rattle.links.specs.Books.{Ledger}
 use Rattle.links.specs.Refusals.{Reason, Answers, Kept}
@@ -59,7 +60,7 @@ module _
     pub second : Bool
     pub moved_first : Moved (found_at stream place) s place next first between
     pub moved_second : Moved (found_at stream next) between next last second t
-    pub count : n ≡ cond first 1 0 + cond second 1 0
+    pub count : n ≡ (if first then 1 else 0) + (if second then 1 else 0)
     pub unmoved : n ≡ 0 → t ≡ s
 
   -- two steps led from the board s to t, which is s where the first finds no command
