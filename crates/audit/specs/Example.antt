@@ -1,4 +1,5 @@
--- A path of four loads of which only the middle two claim each other.
+-- A path of four loads of which only the middle two claim each other. The claim of none stands here
+-- as its number.
 use Rattle.std.specs.Prelude.{◌≡◌, [], ◌∷◌}
 use Rattle.graph.specs.Graph.{Graph, no_links, added}
 use Rattle.audit.specs.declared.Verdict.TheVariants.{PathOfThree}

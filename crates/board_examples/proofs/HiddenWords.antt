@@ -34,10 +34,6 @@ pub record Left (x : Position) : Type 0 where
   pub not_20 : x.graph.linked 2 0 ≡ false
   pub not_21 : x.graph.linked 2 1 ≡ false
 
-pub unlinks : reason after_hidden (unlink 1 2) ≡ None
-unfolding bars_classes bit
-unlinks = refl
-
 pub left : Left after_visible
 unfolding bars_classes bit
 left = record {

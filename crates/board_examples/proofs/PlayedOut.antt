@@ -62,9 +62,6 @@ six_words_long memory none = grind (arith, nat_tests)
 -- ---- the calls
 
 module _ {B F : Type 0} {graph : B → Graph} {made : B → Type 0} {ledger : B → Ledger} {fixed : B → F} (s u v w t : Board B ByNumber) (at₀ : At graph made ledger s (fresh 6 8)) where
-  pub never_linked : (e : Refused) → Plays graph made ledger fixed (λ _. by_number) s pairs (Err e) u → ⊥
-  never_linked e plays = not_refused e refl (links_refused s u (fresh 6 8) at₀ pairs e plays)
-
   module _ (linked : Plays graph made ledger fixed (λ _. by_number) s pairs (Ok tt) u) where
     at₁ : At graph made ledger u six
     at₁ = at_links s u (fresh 6 8) at₀ pairs linked

@@ -13,11 +13,11 @@ use Rattle.commands.specs.declared.Command.{Command}
 use Rattle.commands.specs.declared.Command.TheVariants.{Link, Unlink, Withdraw, Depart, Partner}
 use Rattle.replies.specs.Lines.{line}
 use Rattle.board.specs.declared.Board.{Board}
-use Rattle.board.specs.Runs.{Run, more}
+use Rattle.board.specs.Runs.{Run, more, CarriesRuns}
 use Rattle.stream.specs.Replies.{call_of, reply_at}
 use Rattle.stream.specs.Steps.{Found, at_end, no_command, command, found_at, stepping, WritesLine, Takes, Steps}
 use Rattle.stream.specs.declared.Stepped.{Stepped}
-use Rattle.board_examples.specs.Stepping.{CarriesRuns, Grants, next_place, Moved, CarriesOut, CarriesOutTwo}
+use Rattle.board_examples.specs.Stepping.{Grants, next_place, Moved, CarriesOut, CarriesOutTwo}
 use Rattle.board_examples.proofs.Refusals.{not_refused}
 
 -- ---- the line
@@ -112,21 +112,7 @@ module _ {B R F : Type 0} (graph : B → Graph) (made : B → Type 0) (ledger : 
       );
     }
 
-    pub not_carried : (from out : List ℕ) (e : Refused) → stepping stream from ≡ unless_short stream None → Steps graph made ledger fixed before s stream place from (Err e) t out →
-        CarriesOut graph made ledger fixed before s stream place (Err e) t
-    not_carried from out e long steps = record {
-      run = λ first run. subst (Run graph made ledger fixed before first) (sym steps.board_kept) run;
-      kept = steps.board_kept;
-      answers = sym long ∙ steps.answers;
-    }
-
-    pub none_of_two : (e : Refused) → CarriesOut graph made ledger fixed before s stream place (Err e) t → CarriesOutTwo graph made ledger fixed before s stream place (Err e) t
-    none_of_two e first = record { run = first.run; kept = first.kept; answers = first.answers; no_command_first = λ why found. first.kept }
-
   module _ (s : Board B R) (stream : List ℕ) (place next : ℕ) (first : Bool) (u t : Board B R) (one : CarriesOut graph made ledger fixed before s stream place (Ok (next, first)) u) where
-    pub never_one : (e : Refused) → CarriesOut graph made ledger fixed before u stream next (Err e) t → ⊥
-    never_one e two = not_refused e one.answers.0 two.answers
-
     pub two_of_two : (last n : ℕ) (second : Bool) → CarriesOut graph made ledger fixed before u stream next (Ok (last, second)) t → n ≡ cond first 1 0 + cond second 1 0 → CarriesOutTwo graph made ledger fixed before s stream place (Ok n) t
     two_of_two last n second two sum = record {
       run = λ origin run. two.run origin (one.run origin run);

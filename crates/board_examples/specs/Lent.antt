@@ -11,7 +11,7 @@ use Rattle.rules.specs.Boards.{fresh}
 use Rattle.rules.specs.Repair.{Ranking}
 use Rattle.board.specs.declared.Board.{Board}
 use Rattle.board.specs.Boards.{position, Stands}
-use Rattle.board_examples.specs.Stepping.{CarriesRuns}
+use Rattle.board.specs.Runs.{CarriesRuns}
 
 -- six links after 0 and 1 were unlinked
 abbrev pub five_links : Graph
@@ -22,8 +22,8 @@ five_links =
 abbrev pub links_left : Graph
 links_left = isolated (isolated five_links 4) 3
 
--- from a board s to t: each run that came to s has come to t. On a fresh board all is granted but
--- the linking of 0 and 6, and its links are those that are left
+-- calls led from a board s to t. On a fresh board all is granted but the linking of 0 and 6, and
+-- its links are those that are left
 pub record PlaysOut
     {B R F : Type 0} (graph : B → Graph) (made : B → Type 0) (ledger : B → Ledger) (fixed : B → F)
     (before : R → Ranking) (s : Board B R) (r : Result (Result Unit Refused) Refused)

@@ -10,7 +10,7 @@ use Rattle.rules.specs.Repair.{Ranking}
 use Rattle.tables.specs.Views.{partners_of}
 use Rattle.board.specs.declared.Board.{Board}
 use Rattle.board.specs.Boards.{position, Stands}
-use Rattle.board.specs.Runs.{Run}
+use Rattle.board.specs.Runs.{CarriesRuns}
 
 -- each pair of loads linked
 abbrev pub linkings : List (ℕ × ℕ) → List Call
@@ -27,15 +27,13 @@ first_refusal before [] x = None
 first_refusal before (c ∷ rest) x =
     or_else (reason x c) (first_refusal before rest (after before x c))
 
--- links made on a board s up to the first refusal, answered r, lead to the board t: each run that
--- came to s has come to t, and where s stood and all are granted, t is at the position that the
--- rules lead to
+-- links made on a board s up to the first refusal, answered r, lead by calls to the board t. Where
+-- s stood and all are granted, t is at the position that the rules lead to
 pub record Plays {B R F : Type 0} (graph : B → Graph) (made : B → Type 0) (ledger : B → Ledger)
     (fixed : B → F)
     (before : R → Ranking) (s : Board B R) (pairs : List (ℕ × ℕ)) (r : Result Unit Refused)
     (t : Board B R) : Type 0 where
-  pub run : (first : Board B R) → Run graph made ledger fixed before first s →
-      Run graph made ledger fixed before first t
+  pub run : CarriesRuns graph made ledger fixed before s t
   pub answers : Stands graph made ledger s →
       let x = position graph ledger s in
       let order = before s.ranking in

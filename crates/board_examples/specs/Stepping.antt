@@ -1,5 +1,6 @@
 -- Commands of a stream carried out on any board, made or not.
-use Rattle.std.specs.Prelude.{◌≡◌, ℕ, ◌+◌, Bool, false, cond, List, length, None, Result, is_none}
+use Rattle.std.specs.Prelude.{◌≡◌, ℕ, ◌+◌, Bool, false, List, length, None, Result, is_none}
+use Rattle.std.specs.Prelude.{if◌then◌else◌}
 use Rattle.graph.specs.Graph.{Graph}
 use Rattle.links.specs.Books.{Ledger}
 use Rattle.links.specs.Refusals.{Reason, Answers, Kept}
@@ -9,7 +10,7 @@ use Rattle.rules.specs.Repair.{Ranking}
 use Rattle.commands.specs.Commands.{bytes, unless_short}
 use Rattle.board.specs.declared.Board.{Board}
 use Rattle.board.specs.Boards.{position, Stands}
-use Rattle.board.specs.Runs.{Run}
+use Rattle.board.specs.Runs.{CarriesRuns}
 use Rattle.stream.specs.Replies.{call_of}
 use Rattle.stream.specs.Steps.{Found, at_end, no_command, command, found_at, step_of}
 
@@ -22,12 +23,6 @@ next_place (command c) place = place + length (bytes c)
 module _
     {B R F : Type 0} (graph : B → Graph) (made : B → Type 0) (ledger : B → Ledger) (fixed : B → F)
     (before : R → Ranking) where
-  -- each run that came to the board s has come to the board t
-  abbrev pub CarriesRuns : Board B R → Board B R → Type 0
-  CarriesRuns s t =
-      (first : Board B R) → Run graph made ledger fixed before first s →
-      Run graph made ledger fixed before first t
-
   -- whether what stands at a place is granted: only a command is, and on a made book just where
   -- the rules have no reason to refuse its call
   abbrev pub Grants : Found → Board B R → Bool → Type 0
@@ -49,7 +44,7 @@ module _
   -- a step at a place of a stream led from the board s to t
   pub record CarriesOut (s : Board B R) (stream : List ℕ) (place : ℕ)
       (r : Result (ℕ × Bool) Refused) (t : Board B R) : Type 0 where
-    pub run : CarriesRuns s t
+    pub run : CarriesRuns graph made ledger fixed before s t
     pub kept : Kept r s t
     pub answers : Answers (unless_short stream None) r
         (λ p. Moved (found_at stream place) s place p.0 p.1 t)
@@ -65,13 +60,13 @@ module _
     pub second : Bool
     pub moved_first : Moved (found_at stream place) s place next first between
     pub moved_second : Moved (found_at stream next) between next last second t
-    pub count : n ≡ cond first 1 0 + cond second 1 0
+    pub count : n ≡ (if first then 1 else 0) + (if second then 1 else 0)
     pub unmoved : n ≡ 0 → t ≡ s
 
   -- two steps led from the board s to t, which is s where the first finds no command
   pub record CarriesOutTwo (s : Board B R) (stream : List ℕ) (place : ℕ) (r : Result ℕ Refused)
       (t : Board B R) : Type 0 where
-    pub run : CarriesRuns s t
+    pub run : CarriesRuns graph made ledger fixed before s t
     pub kept : Kept r s t
     pub answers : Answers (unless_short stream None) r (λ n. MovedTwice s stream place n t)
     pub no_command_first : (why : Reason) → found_at stream place ≡ no_command why → t ≡ s

@@ -11,10 +11,13 @@ use links::{Book, Refused};
 use ranking::{ByNumber, Ranking};
 
 /// The partners of twenty-four loads at three moments.
-#[derive(Drop)]
+#[derive(Debug, Drop)]
 pub struct Readings {
+    /// After six pairs were linked.
     pub linked: [Option<usize>; 24],
+    /// After 0 and 1 were unlinked.
     pub unlinked: [Option<usize>; 24],
+    /// After 3 was withdrawn.
     pub withdrawn: [Option<usize>; 24],
 }
 

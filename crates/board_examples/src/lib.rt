@@ -79,9 +79,11 @@ pub fn six_loads_on_rows() -> Result<[Option<usize>; 6], Refused>
 }
 
 /// The partners of seven loads, before a link and after it.
-#[derive(Drop)]
+#[derive(Debug, Drop)]
 pub struct Displacement {
+    /// Before load 0 has its fifth link.
     pub before: [Option<usize>; 7],
+    /// And with it.
     pub after: [Option<usize>; 7],
 }
 
@@ -106,11 +108,13 @@ pub fn heavy_load_on_bit_matrix() -> Result<Displacement, Refused>
 }
 
 /// What a board on a filter that hides the link of 0 and 1 answers.
-#[derive(Drop)]
+#[derive(Debug, Drop)]
 pub struct Filtered {
-    /// To linking 0 and 1, and to unlinking them.
+    /// To linking 0 and 1.
     pub linking: Result<(), Refused>,
+    /// To unlinking them.
     pub unlinking: Result<(), Refused>,
+    /// To the question for the partner of each load.
     pub partners: Result<[Option<usize>; 3], Refused>,
     /// To the question how many free loads load 1 is linked to.
     pub free_links: Result<usize, Refused>,

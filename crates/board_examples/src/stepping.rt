@@ -4,6 +4,7 @@ ghost use Rattle.board_examples.specs.Stepping.{CarriesOut, CarriesOutTwo};
 use board::Board;
 use links::{Book, Links, Refused};
 use ranking::Ranking;
+use replies::LONGEST_LINE;
 use stream::step;
 
 // Plays the command at a place of a stream, and answers the place after it and whether it was
@@ -16,7 +17,7 @@ fn carry_out<B: Book, R: Ranking>(
     ensures { CarriesOut B.Links.graph B.Links.made B.Book.ledger B.Book.fixed R.Ranking.before
         board.old stream.now place result board.new }
 {
-    let mut out = [0; 19];
+    let mut out = [0; LONGEST_LINE];
     let stepped = step(board, stream, place, &mut out)?;
     Ok((stepped.place, stepped.written > 0 && out[0] != b'n'))
 }

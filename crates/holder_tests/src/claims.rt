@@ -1,10 +1,7 @@
 // The audit's verdicts.
-use audit::{Verdict, audit};
+use audit::{NO_PARTNER, Verdict, audit};
 use bit_matrix::BitMatrix;
 use links::{Book, Layer, Refusal};
-
-// No partner.
-const NONE: u16 = 65535;
 
 // A table of claims is as long as there are loads.
 #[test]
@@ -12,9 +9,9 @@ fn lengths(rt: HostRuntime) {
     let mut words = [0u64; 4];
     let book = BitMatrix::new(4, 9, &mut words);
     let refused = Err(Refusal::WrongLength.by(Layer::Board));
-    assert_eq!(rt; audit(&book, &[NONE; 3]), refused);
-    assert_eq!(rt; audit(&book, &[NONE; 5]), refused);
-    assert_eq!(rt; audit(&book, &[NONE; 4]), Ok(Verdict::Sound));
+    assert_eq!(rt; audit(&book, &[NO_PARTNER; 3]), refused);
+    assert_eq!(rt; audit(&book, &[NO_PARTNER; 5]), refused);
+    assert_eq!(rt; audit(&book, &[NO_PARTNER; 4]), Ok(Verdict::Sound));
 }
 
 // The loads 0 to 3 in a row.
@@ -26,15 +23,15 @@ fn verdicts(rt: HostRuntime) {
         assert_eq!(rt; book.add(a, a + 1), Ok(()));
     }
     let cases = [
-        ([NONE, 2, 1, NONE], Verdict::PathOfThree((0, 1, 2, 3))),
-        ([NONE, NONE, 3, 2], Verdict::PathOfOne((0, 1))),
-        ([NONE, 0, NONE, NONE], Verdict::NotReturned(1)),
-        ([4, NONE, NONE, NONE], Verdict::NotReturned(0)),
-        ([2, NONE, 0, NONE], Verdict::NotLinked(0)),
-        ([0, 2, 1, NONE], Verdict::NotLinked(0)),
+        ([NO_PARTNER, 2, 1, NO_PARTNER], Verdict::PathOfThree((0, 1, 2, 3))),
+        ([NO_PARTNER, NO_PARTNER, 3, 2], Verdict::PathOfOne((0, 1))),
+        ([NO_PARTNER, 0, NO_PARTNER, NO_PARTNER], Verdict::NotReturned(1)),
+        ([4, NO_PARTNER, NO_PARTNER, NO_PARTNER], Verdict::NotReturned(0)),
+        ([2, NO_PARTNER, 0, NO_PARTNER], Verdict::NotLinked(0)),
+        ([0, 2, 1, NO_PARTNER], Verdict::NotLinked(0)),
         ([1, 0, 3, 2], Verdict::Sound),
         // a fault of an earlier kind counts before a lower load
-        ([3, NONE, 1, 0], Verdict::NotReturned(2)),
+        ([3, NO_PARTNER, 1, 0], Verdict::NotReturned(2)),
     ];
     for (claims, verdict) in cases {
         assert_eq!(rt; audit(&book, &claims), Ok(verdict));
@@ -49,5 +46,5 @@ fn triangle(rt: HostRuntime) {
     assert_eq!(rt; book.add(0, 1), Ok(()));
     assert_eq!(rt; book.add(1, 2), Ok(()));
     assert_eq!(rt; book.add(0, 2), Ok(()));
-    assert_eq!(rt; audit(&book, &[NONE, 2, 1]), Ok(Verdict::Sound));
+    assert_eq!(rt; audit(&book, &[NO_PARTNER, 2, 1]), Ok(Verdict::Sound));
 }

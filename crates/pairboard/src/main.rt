@@ -2,25 +2,9 @@
 //! then the pairs.
 #![tactic(auto)]
 
-use commands::LONGEST_STREAM;
-use std::io;
-use std::io::Read;
-use transcript::transcript;
+use programs::pairboard;
+use std::process::ExitCode;
 
-fn main(rt: HostRuntime) -> io::Result<()> {
-    let mut input = Vec::new(rt.alloc());
-    rt.stdin()
-        .take(LONGEST_STREAM as u64)
-        .read_to_end(&mut input)?;
-    match transcript(rt.alloc(), input.as_slice()) {
-        Ok(text) => rt.write_all(text.as_slice())?,
-        Err(failure) => {
-            eprintln!(rt; "{failure}")?;
-            return Err(io::Error::from(io::ErrorKind::Other));
-        }
-    }
-    if input.len() == LONGEST_STREAM {
-        eprintln!(rt; "nothing past the first {LONGEST_STREAM} bytes was read")?;
-    }
-    Ok(())
+fn main(rt: HostRuntime) -> ExitCode {
+    pairboard::main(&rt)
 }

@@ -4,5 +4,4 @@ pub mod Starts
 pub mod Taking
 pub mod Displacing
 pub mod Rounds
-pub mod OnLinks
 mod Heavy

@@ -1,7 +1,10 @@
 // The best, in a load's ranking, of the loads that an iterator gives.
-ghost use Rattle.repair.specs.Best.{BestOf};
+ghost use Rattle.repair.specs.Best.{BestOf, FirstLinked};
+ghost use Rattle.repair.specs.OnLinks.{OnLinks};
 
-use links::members::{MembersInOrder, NextMember};
+use crate::Repair;
+use links::Links;
+use links::members::{MembersInOrder, NextMember, linked_loads};
 use ranking::Ranking;
 
 // The first in a's ranking of the members that pass the test.
@@ -22,4 +25,15 @@ pub(super) fn best_of<R: Ranking, S: NextMember + Drop, F: Fn(usize) -> bool>(
         }
     }
     best
+}
+
+impl<L: Links, R: Ranking> Repair<'_, L, R> {
+    // The first in a's ranking of the loads linked to a that pass the test.
+    pub(super) fn first_linked<F: Fn(usize) -> bool>(&self, a: usize, test: F) -> Option<usize>
+        requires { F.IsAlwaysCallable test }
+        ensures { OnLinks L.Links.made L.Links.graph R.Ranking.before self.now
+            (λ before t g. FirstLinked before g a (F.post test) result) }
+    {
+        best_of(self.ranking, a, linked_loads(self.links, a, 256), test)
+    }
 }

@@ -9,9 +9,7 @@ ghost use Rattle.repair.specs.OnLinks.{OnLinks};
 ghost use Rattle.repair.specs.Holds.{Changes, Augments, LightPartner};
 
 use crate::Repair;
-use crate::best::best_of;
 use links::Links;
-use links::members::linked_loads;
 use ranking::Ranking;
 use tables::Tables;
 
@@ -54,9 +52,7 @@ impl<L: Links, R: Ranking> Repair<'_, L, R> {
             (λ before t g. Agrees g tables.now
             → result ≡ light_start_of before t g (partners_of tables.now) a) }
     {
-        let linked = linked_loads(self.links, a, 256);
-        let is_light = |x| has_light_partner(tables, self.limit, x);
-        best_of(self.ranking, a, linked, is_light)
+        self.first_linked(a, |x| has_light_partner(tables, self.limit, x))
     }
 
     // a, which is free, displaces a light load if a has more links than the threshold.

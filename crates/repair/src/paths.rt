@@ -8,7 +8,6 @@ ghost use Rattle.repair.specs.Paths.{FirstOther, HasOther, GoesOver, PathIs};
 use crate::Repair;
 use crate::best::best_of;
 use links::Links;
-use links::members::linked_loads;
 use ranking::Ranking;
 use tables::Tables;
 
@@ -53,8 +52,7 @@ impl<L: Links, R: Ranking> Repair<'_, L, R> {
             (λ before t g. Agrees g tables.now
             → result ≡ path_start_of before g (partners_of tables.now) a) }
     {
-        let linked = linked_loads(self.links, a, 256);
-        best_of(self.ranking, a, linked, |x| goes_over(tables, a, x))
+        self.first_linked(a, |x| goes_over(tables, a, x))
     }
 
     // The first augmenting path of three links that begins at a: its four loads in their order.

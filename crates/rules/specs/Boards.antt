@@ -1,6 +1,6 @@
 -- Boards played through by the rules, on fresh books and with the lower number first.
-use Rattle.std.specs.Prelude.{◌≡◌, ℕ, zero, suc, ◌+◌, ◌-◌, ◌%◌, ◌≤◌, Bool, false, cond, List, []}
-use Rattle.std.specs.Prelude.{◌∷◌, ◌++◌, Some, None, Option, ◌==◌, nat_lt}
+use Rattle.std.specs.Prelude.{◌≡◌, ℕ, zero, suc, ◌+◌, ◌-◌, ◌%◌, ◌≤◌, Bool, false, List, []}
+use Rattle.std.specs.Prelude.{◌∷◌, ◌++◌, Some, None, Option, ◌==◌, nat_lt, if◌then◌else◌}
 use Rattle.graph.specs.Graph.{no_links, degree}
 use Rattle.graph.specs.Matching.{Augmenting}
 use Rattle.graph.specs.declared.TheConstants.{MOST_LOADS}
@@ -56,7 +56,8 @@ partners_in x = listed x.partners 0 x.graph.size
 -- the links of b with the loads below n, and the links of the loads below m with lower ones
 abbrev pub links_with : (ℕ → ℕ → Bool) → ℕ → ℕ → List (ℕ × ℕ)
 links_with linked b zero = []
-links_with linked b (suc n) = links_with linked b n ++ cond (linked n b) ((n, b) ∷ []) []
+links_with linked b (suc n) =
+    links_with linked b n ++ (if linked n b then (n, b) ∷ [] else [])
 
 abbrev pub links_below : (ℕ → ℕ → Bool) → ℕ → List (ℕ × ℕ)
 links_below linked zero = []
@@ -137,7 +138,7 @@ pub record Star : Type 0 where
 
 -- even loads would rather have the lower number, odd loads the higher
 abbrev pub by_parity : Ranking
-by_parity a x y = cond (a % 2 == 0) (nat_lt x y) (nat_lt y x)
+by_parity a x y = if a % 2 == 0 then nat_lt x y else nat_lt y x
 
 -- the path from 0 goes over 2 and 3, and ends at the first of 4 and 5 for the load 3
 abbrev pub ranked : Position

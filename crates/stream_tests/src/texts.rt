@@ -5,7 +5,7 @@ use std::alloc::{AllocError, Global};
 use std::fmt::Display;
 use std::process::Abort;
 use std::test::Fail;
-use text::stream::{BadStream, BadText, decode, encode};
+use text::conversion::{BadStream, BadText, decode, encode};
 use text::{format_line, parse_line};
 
 fn check_printed(
@@ -30,7 +30,7 @@ fn check_decode(rt: &(impl Abort + AllocGlobal), bytes: &[u8], text: &str) -> Re
     Ok(())
 }
 
-fn check_bad_text(rt: &(impl Abort + AllocGlobal), text: &[u8], reason: BadText) {
+fn check_bad_text(rt: &(impl Abort + AllocGlobal), text: &[u8], reason: BadText<'_>) {
     assert_eq!(rt; encode(rt.alloc(), text).err(), Some(reason), "of {text:?}");
 }
 
@@ -109,7 +109,7 @@ fn each_command(rt: HostRuntime) -> Result<(), Fail> {
 }
 
 // Texts without a command.
-const NO_COMMANDS: [&[u8]; 14] = [
+const NO_COMMANDS: [&[u8]; 17] = [
     b"",
     b"\n",
     b"\n\n\n",
@@ -124,6 +124,9 @@ const NO_COMMANDS: [&[u8]; 14] = [
     b"   # link 1 2\n",
     b"# link 1 2\r\n",
     b"#\t\xff\x00",
+    b"\t",
+    b" \t \r\n",
+    b"\t# who?",
 ];
 
 #[test]
@@ -135,7 +138,7 @@ fn no_commands(rt: HostRuntime) -> Result<(), Fail> {
 }
 
 // Texts with a command or two, and their bytes.
-const WITH_COMMANDS: [(&[u8], &[u8]); 16] = [
+const WITH_COMMANDS: [(&[u8], &[u8]); 27] = [
     (b"depart 4", &[4, 0, 4]),
     (b"depart 4\n", &[4, 0, 4]),
     (b"depart 4\r", &[4, 0, 4]),
@@ -149,6 +152,17 @@ const WITH_COMMANDS: [(&[u8], &[u8]); 16] = [
     (b"unlink 0256 00255", &[2, 1, 0, 0, 255]),
     (b"depart 4\n\n", &[4, 0, 4]),
     (b"\n\r\n  \ndepart 4", &[4, 0, 4]),
+    (b"\tlink 1 2", &[1, 0, 1, 0, 2]),
+    (b"link\t1 2", &[1, 0, 1, 0, 2]),
+    (b"link 1\t2", &[1, 0, 1, 0, 2]),
+    (b"link 1 2\t", &[1, 0, 1, 0, 2]),
+    (b" \t link\t \t1\t\t2 \t\r\n", &[1, 0, 1, 0, 2]),
+    (b"partner 1 # who?", &[5, 0, 1]),
+    (b"link 1 2 # why?", &[1, 0, 1, 0, 2]),
+    (b"link 1 2\t#why?\r\n", &[1, 0, 1, 0, 2]),
+    (b"link 1 2 # 3", &[1, 0, 1, 0, 2]),
+    (b"depart 4 #", &[4, 0, 4]),
+    (b"depart 4 # \xff\x00 # \tlink", &[4, 0, 4]),
     (b"link 1 2\npartner 1", &[1, 0, 1, 0, 2, 5, 0, 1]),
     (b"link 1 2\r\n\r\npartner 1\r\n", &[1, 0, 1, 0, 2, 5, 0, 1]),
     (
@@ -166,7 +180,7 @@ fn with_commands(rt: HostRuntime) -> Result<(), Fail> {
 }
 
 // Lines of which none is a command or a comment.
-const BAD_LINES: [&[u8]; 38] = [
+const BAD_LINES: [&[u8]; 40] = [
     b"swap 1 2",
     b"links 1 2",
     b"lin 1 2",
@@ -174,12 +188,16 @@ const BAD_LINES: [&[u8]; 38] = [
     b"1 2",
     b"Link 1 2",
     b"DEPART 4",
-    b"\t",
-    b"\tlink 1 2",
-    b"link\t1 2",
-    b"link 1\t2",
-    b"link 1 2\t",
-    b"\t# who?",
+    b"lnk\t3",
+    b"link\x0b1 2",
+    b"link\xc2\xa01 2",
+    b"link 1 2#x",
+    b"link 1 2#",
+    b"link 1 #2",
+    b"link 1 # 2",
+    b"link # 1 2",
+    b"link# 1 2",
+    b"; link 1 2",
     b"link",
     b"link 1",
     b"unlink 1",
@@ -189,8 +207,6 @@ const BAD_LINES: [&[u8]; 38] = [
     b"withdraw 1 2",
     b"depart 1 2",
     b"partner 1 2",
-    b"partner 1 # who?",
-    b"link 1 2 # why?",
     b"link 1 2 depart 4",
     b"withdraw 65536",
     b"link 65536 0",
@@ -210,25 +226,25 @@ const BAD_LINES: [&[u8]; 38] = [
 #[test]
 fn bad_lines(rt: HostRuntime) {
     for line in BAD_LINES {
-        check_bad_text(&rt, line, BadText::Line(1));
+        check_bad_text(&rt, line, BadText::Line(1, line));
     }
 }
 
-// Texts, and the number of their first bad line.
-const BAD_TEXTS: [(&[u8], usize); 7] = [
-    (b"depart\ndepart 4\n", 1),
-    (b"link 0 1\nlink 2", 2),
-    (b"link 0 1\n\nlink 2\n", 3),
-    (b"\r\n\r\npartne 1\r\n", 3),
-    (b"# one\n  # two\n\n\nlink 1 2\nLink 1 2\n", 6),
-    (b"link 1 2\ndepart\nlink\n", 2),
-    (b"\n\n\n\n\n\n\n\n\n\n\t", 11),
+// Texts, and the first bad line of each with its number.
+const BAD_TEXTS: [(&[u8], usize, &[u8]); 7] = [
+    (b"depart\ndepart 4\n", 1, b"depart"),
+    (b"link 0 1\nlink 2", 2, b"link 2"),
+    (b"link 0 1\n\nlink 2\n", 3, b"link 2"),
+    (b"\r\n\r\npartne 1\r\n", 3, b"partne 1\r"),
+    (b"# one\n  # two\n\n\nlink 1 2\nLink 1 2\n", 6, b"Link 1 2"),
+    (b"link 1 2\ndepart\nlink\n", 2, b"depart"),
+    (b"\n\n\n\n\n\n\n\n\n\n\tx", 11, b"\tx"),
 ];
 
 #[test]
 fn bad_texts(rt: HostRuntime) {
-    for (text, number) in BAD_TEXTS {
-        check_bad_text(&rt, text, BadText::Line(number));
+    for (text, number, line) in BAD_TEXTS {
+        check_bad_text(&rt, text, BadText::Line(number, line));
     }
 }
 
@@ -316,9 +332,43 @@ fn bad_streams(rt: HostRuntime) {
     check_bad_stream(&rt, &fives, Refusal::WrongLength, 0);
 }
 
+// A bad line, and how it is shown: without a carriage return, with escapes, and cut after 60 bytes.
+const SHOWN: [(&[u8], &str); 8] = [
+    (b"lnk 3", "\"lnk 3\""),
+    (b"lnk 3\r", "\"lnk 3\""),
+    (b"lnk 3\r\r", "\"lnk 3\\r\""),
+    (b"\tlnk", "\"\\tlnk\""),
+    (b"a\"b\\c", "\"a\\\"b\\\\c\""),
+    (b"\x00\x1b[2J\x7f\xff", "\"\\x00\\x1b[2J\\x7f\\xff\""),
+    (
+        b"123456789 123456789 123456789 123456789 123456789 123456789 ",
+        "\"123456789 123456789 123456789 123456789 123456789 123456789 \"",
+    ),
+    (
+        b"123456789 123456789 123456789 123456789 123456789 123456789 1",
+        "\"123456789 123456789 123456789 123456789 123456789 123456789 \"..",
+    ),
+];
+
+#[test]
+fn shown(rt: HostRuntime) -> Result<(), Fail> {
+    for (line, quoted) in SHOWN {
+        let words = format!(in rt.alloc();
+            "line 7: {quoted} is no command \
+            (link A B, unlink A B, withdraw A, depart A, partner A)"
+        )?;
+        check_printed(&rt, BadText::Line(7, line), words.as_str())?;
+    }
+    Ok(())
+}
+
 #[test]
 fn told(rt: HostRuntime) -> Result<(), Fail> {
-    check_printed(&rt, BadText::Line(3), "line 3: no command of this form")?;
+    check_printed(
+        &rt,
+        BadText::Line(2, b"lnk 3"),
+        "line 2: \"lnk 3\" is no command (link A B, unlink A B, withdraw A, depart A, partner A)",
+    )?;
     check_printed(
         &rt,
         BadText::TooLong,
@@ -326,16 +376,18 @@ fn told(rt: HostRuntime) -> Result<(), Fail> {
     )?;
     check_printed(&rt, BadText::NoMemory, "no memory is left")?;
     let at = |refusal: Refusal, place| BadStream::At(refusal.by(Layer::Stream), place);
-    check_printed(
-        &rt,
-        at(Refusal::UnknownCommand, 5),
-        "byte 5: refused with 12",
-    )?;
+    let unknown = Refusal::UnknownCommand;
+    let words = format!(in rt.alloc(); "byte 5: {unknown} (refusal 12)")?;
+    check_printed(&rt, at(unknown, 5), words.as_str())?;
     check_printed(
         &rt,
         at(Refusal::CutShort, 65_535),
-        "byte 65535: refused with 13",
+        "byte 65535: the stream ends inside a command (refusal 13)",
     )?;
-    check_printed(&rt, at(Refusal::WrongLength, 0), "byte 0: refused with 3")?;
+    check_printed(
+        &rt,
+        at(Refusal::WrongLength, 0),
+        "the stream has more than 65536 bytes (refusal 3)",
+    )?;
     check_printed(&rt, BadStream::NoMemory, "no memory is left")
 }

@@ -14,7 +14,7 @@ has s b = member s.words b
 
 -- what is kept of a load that is free and has no links, as of a number past the tables
 abbrev pub blank : Record
-blank = record { partner = None; links = 0; free_links = 0 }
+blank = record { partner = None; degree = 0; free_degree = 0 }
 
 abbrev pub empty : LoadSet
 empty = record { words = [] }
@@ -28,10 +28,10 @@ partners_of t a = (record_of t a).partner
 
 -- how many links are recorded of a load, and how many to free loads
 abbrev pub degree_of : Tables → ℕ → ℕ
-degree_of t a = (record_of t a).links
+degree_of t a = (record_of t a).degree
 
 abbrev pub free_degree_of : Tables → ℕ → ℕ
-free_degree_of t a = (record_of t a).free_links
+free_degree_of t a = (record_of t a).free_degree
 
 -- b is recorded as a free load that a is linked to
 abbrev pub free_linked : Tables → ℕ → ℕ → Bool

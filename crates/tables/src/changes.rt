@@ -29,7 +29,7 @@ impl Tables {
         ensures { Stepped on (λ _. false) (nat_eq x) a self.old self.new }
     {
         let x = usize::from(x);
-        self.records[x].free_links = step(self.records[x].free_links, on);
+        self.records[x].free_degree = step(self.records[x].free_degree, on);
         self.free[x].put(a, on);
     }
 
@@ -38,7 +38,7 @@ impl Tables {
         ensures { (b : ℕ) → Stepped on (nat_eq a) (λ _. false) b self.old self.new }
     {
         let a = usize::from(a);
-        self.records[a].links = step(self.records[a].links, on);
+        self.records[a].degree = step(self.records[a].degree, on);
     }
 
     // a gets or loses a link to b.

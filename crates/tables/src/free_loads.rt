@@ -7,7 +7,7 @@ use crate::Tables;
 use links::members::{MembersInOrder, NextMember};
 
 /// The free loads that a load is linked to, as a set that can be asked for its next member.
-#[derive(Clone, Copy)]
+#[derive(Clone, Copy, Debug)]
 pub struct FreeLinked<'a> {
     tables: &'a Tables,
     load: usize,

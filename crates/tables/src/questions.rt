@@ -10,8 +10,8 @@ use crate::{LoadSet, Record, Tables};
 // The record of a load that is free and has no links.
 const BLANK: Record = Record {
     partner: None,
-    links: 0,
-    free_links: 0,
+    degree: 0,
+    free_degree: 0,
 };
 
 impl Tables {
@@ -62,7 +62,7 @@ impl Tables {
     pub fn degree(&self, a: usize) -> usize
         ensures { result ≡ degree_of self.now a }
     {
-        usize::from(self.record(a).links)
+        usize::from(self.record(a).degree)
     }
 
     /// The number of free loads that `a` is linked to; 0 where `a` is not below 256. Looks at one
@@ -70,7 +70,7 @@ impl Tables {
     pub fn free_degree(&self, a: usize) -> usize
         ensures { result ≡ free_degree_of self.now a }
     {
-        usize::from(self.record(a).free_links)
+        usize::from(self.record(a).free_degree)
     }
 
     /// The smallest free load at or above `from` that `a` is linked to, if there is one; none where

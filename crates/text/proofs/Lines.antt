@@ -1,5 +1,5 @@
 -- The line of a command means that command.
-use Rattle.std.proofs.Common.{◌≡◌, ℕ, ◌-◌, ◌^◌, ◌<◌, ◌≤◌, true, false, cond, ◌&&◌, eqb, ltb, leb, List, [], ◌∷◌, ◌++◌, length, get_or, Some, None, Ok, codes, decimal, sym, refl, ap, ◌∙◌, append_assoc, append-nil, arith, length-append}
+use Rattle.std.proofs.Common.{◌≡◌, ℕ, ◌-◌, ◌^◌, ◌<◌, ◌≤◌, true, false, Bool, cond, ◌&&◌, eqb, ltb, leb, List, [], ◌∷◌, ◌++◌, length, get_or, Some, None, Ok, codes, decimal, sym, refl, ap, ◌∙◌, append_assoc, append-nil, arith, length-append}
 use Rattle.std.specs.Str.Parse.{digits_value}
 use Rattle.std.specs.Char.{is_ascii_digit}
 use Rattle.std.specs.Str.{all_ascii_digits}
@@ -16,9 +16,9 @@ use denote.Enum.Declared.{row}
 use denote.Laws.{Is}
 use Rattle.commands.specs.contracts.Command.{the_type}
 use Rattle.commands.proofs.Command.TheLaws.{the_laws}
-use Rattle.text.specs.Words.{line_without_return, unspaced, front, past, word, empty, number}
+use Rattle.text.specs.Words.{line_without_return, blank, unspaced, front, past, word, no_more, number}
 use Rattle.commands.specs.Commands.{line_of}
-use Rattle.text.specs.Lines.{with_load, command_of_one, command_of_two, command_of, comment, required, meaning, Means}
+use Rattle.text.specs.Lines.{with_load, command_of_one, command_of_two, command_of, required, meaning, Means}
 
 all_digits : (n : ℕ) → n < 2 ^ 16 → all_ascii_digits (decimal n) ≡ true
 all_digits n small = digits_decimal (numerals_by_value _ tells_all_ascii_digits) n (omega arith)
@@ -36,35 +36,48 @@ number_decimal n small =
 no_digit : (s c : ℕ) → s < 48 → is_ascii_digit c ≡ true → eqb c s ≡ false
 no_digit s c low digit = grind (arith, nat_tests)
 
-not_space : (c : ℕ) → is_ascii_digit c ≡ true → eqb c 32 ≡ false
-not_space c digit = no_digit 32 c (omega arith) digit
+-- digits do not end a word, and not a line
+abbrev NoDigit : (ℕ → Bool) → Type 0
+NoDigit ends = (c : ℕ) → is_ascii_digit c ≡ true → ends c ≡ false
 
--- digits are no separators
-front_digits : (s : ℕ) → s < 48 → (ds after : List ℕ) → all_ascii_digits ds ≡ true → front s (ds ++ after) ≡ ds ++ front s after
-front_digits s low [] after all = refl
-front_digits s low (d ∷ ds) after all =
+not_blank : NoDigit blank
+not_blank c digit = rw (no_digit 32 c (omega arith) digit, no_digit 9 c (omega arith) digit) refl
+
+not_feed : NoDigit (λ c. eqb c 10)
+not_feed c digit = no_digit 10 c (omega arith) digit
+
+front_digits : (ends : ℕ → Bool) → NoDigit ends → (ds after : List ℕ) → all_ascii_digits ds ≡ true → front ends (ds ++ after) ≡ ds ++ front ends after
+front_digits ends never [] after all = refl
+front_digits ends never (d ∷ ds) after all =
     let (digit, others) = and_parts (is_ascii_digit d) (all_ascii_digits ds) all in
-    cond-false (eqb d s) _ _ (no_digit s d low digit) ∙ ap (λ l. d ∷ l) (front_digits s low ds after others)
+    cond-false (ends d) _ _ (never d digit) ∙ ap (λ l. d ∷ l) (front_digits ends never ds after others)
 
-past_digits : (ds after : List ℕ) → all_ascii_digits ds ≡ true → past 32 (ds ++ after) ≡ past 32 after
+past_digits : (ds after : List ℕ) → all_ascii_digits ds ≡ true → past blank (ds ++ after) ≡ past blank after
 past_digits [] after all = refl
 past_digits (d ∷ ds) after all =
     let (digit, others) = and_parts (is_ascii_digit d) (all_ascii_digits ds) all in
-    cond-false (eqb d 32) _ _ (not_space d digit) ∙ past_digits ds after others
+    cond-false (blank d) _ _ (not_blank d digit) ∙ past_digits ds after others
 
 unspaced_digits : (ds after : List ℕ) → 0 < length ds → all_ascii_digits ds ≡ true → unspaced (ds ++ after) ≡ ds ++ after
 unspaced_digits [] after some all = absurd (omega arith)
 unspaced_digits (d ∷ ds) after some all =
     let (digit, others) = and_parts (is_ascii_digit d) (all_ascii_digits ds) all in
-    cond-false (eqb d 32) _ _ (not_space d digit)
+    cond-false (blank d) _ _ (not_blank d digit)
 
 -- digits after a space, and what comes after them
-word_digits : (ds after : List ℕ) → 0 < length ds → all_ascii_digits ds ≡ true → front 32 after ≡ [] → word 0 (32 ∷ (ds ++ after)) ≡ ds
+word_digits : (ds after : List ℕ) → 0 < length ds → all_ascii_digits ds ≡ true → front blank after ≡ [] → word 0 (32 ∷ (ds ++ after)) ≡ ds
 word_digits ds after some all ends =
-    ap (front 32) (unspaced_digits ds after some all) ∙ (front_digits 32 (omega arith) ds after all ∙ (ap (λ l. ds ++ l) ends ∙ append-nil ds))
+    ap (front blank) (unspaced_digits ds after some all) ∙ (front_digits blank not_blank ds after all ∙ (ap (λ l. ds ++ l) ends ∙ append-nil ds))
 
-after_digits : (ds after : List ℕ) → 0 < length ds → all_ascii_digits ds ≡ true → past 32 (unspaced (32 ∷ (ds ++ after))) ≡ past 32 after
-after_digits ds after some all = ap (past 32) (unspaced_digits ds after some all) ∙ past_digits ds after all
+after_digits : (ds after : List ℕ) → 0 < length ds → all_ascii_digits ds ≡ true → past blank (unspaced (32 ∷ (ds ++ after))) ≡ past blank after
+after_digits ds after some all = ap (past blank) (unspaced_digits ds after some all) ∙ past_digits ds after all
+
+-- digits are a word that begins no comment
+more_digits : (ds : List ℕ) → 0 < length ds → all_ascii_digits ds ≡ true → no_more ds ≡ false
+more_digits [] some all = absurd (omega arith)
+more_digits (d ∷ ds) some all =
+    let (digit, others) = and_parts (is_ascii_digit d) (all_ascii_digits ds) all in
+    rw (ne_eqb (length (d ∷ ds)) 0 (λ none. omega arith), no_digit 35 d (omega arith) digit) refl
 
 -- one load at the end of the line
 module _ (a : ℕ) (small : a < 2 ^ 16) where
@@ -80,14 +93,14 @@ module _ (a : ℕ) (small : a < 2 ^ 16) where
 
 loads_one : (kind rest : List ℕ) (a : ℕ) → number (word 0 rest) ≡ Some a → word 1 rest ≡ [] → command_of kind rest ≡ command_of_one kind a
 loads_one kind rest a first none =
-    ap (λ n. with_load n (λ a. cond (empty (word 1 rest)) (command_of_one kind a) (with_load (number (word 1 rest)) (λ b. cond (empty (word 2 rest)) (command_of_two kind a b) None)))) first
-    ∙ cond-true (empty (word 1 rest)) _ _ (ap empty none)
+    ap (λ n. with_load n (λ a. cond (no_more (word 1 rest)) (command_of_one kind a) (with_load (number (word 1 rest)) (λ b. cond (no_more (word 2 rest)) (command_of_two kind a b) None)))) first
+    ∙ cond-true (no_more (word 1 rest)) _ _ (ap no_more none)
 
-loads_two : (kind rest : List ℕ) (a b : ℕ) → number (word 0 rest) ≡ Some a → empty (word 1 rest) ≡ false → number (word 1 rest) ≡ Some b → word 2 rest ≡ [] → command_of kind rest ≡ command_of_two kind a b
+loads_two : (kind rest : List ℕ) (a b : ℕ) → number (word 0 rest) ≡ Some a → no_more (word 1 rest) ≡ false → number (word 1 rest) ≡ Some b → word 2 rest ≡ [] → command_of kind rest ≡ command_of_two kind a b
 loads_two kind rest a b first some second none =
-    ap (λ n. with_load n (λ a. cond (empty (word 1 rest)) (command_of_one kind a) (with_load (number (word 1 rest)) (λ b. cond (empty (word 2 rest)) (command_of_two kind a b) None)))) first
-    ∙ (cond-false (empty (word 1 rest)) _ _ some
-    ∙ (ap (λ n. with_load n (λ b. cond (empty (word 2 rest)) (command_of_two kind a b) None)) second ∙ cond-true (empty (word 2 rest)) _ _ (ap empty none)))
+    ap (λ n. with_load n (λ a. cond (no_more (word 1 rest)) (command_of_one kind a) (with_load (number (word 1 rest)) (λ b. cond (no_more (word 2 rest)) (command_of_two kind a b) None)))) first
+    ∙ (cond-false (no_more (word 1 rest)) _ _ some
+    ∙ (ap (λ n. with_load n (λ b. cond (no_more (word 2 rest)) (command_of_two kind a b) None)) second ∙ cond-true (no_more (word 2 rest)) _ _ (ap no_more none)))
 
 one_number : (kind : List ℕ) (a : ℕ) → a < 2 ^ 16 → command_of kind (32 ∷ decimal a) ≡ command_of_one kind a
 one_number kind a small =
@@ -101,7 +114,7 @@ two_numbers kind a b small-a small_b =
     let second = ap (word 0) after ∙ last_word b small_b in
     let none = ap (word 1) after ∙ no_word b small_b in
     loads_two kind rest a b (ap number first ∙ number_decimal a small-a)
-    (ap empty second ∙ ne_eqb (length (decimal b)) 0 (λ is-0. omega (arith, some_digits b small_b)))
+    (ap no_more second ∙ more_digits (decimal b) (some_digits b small_b) (all_digits b small_b))
     (ap number second ∙ number_decimal b small_b)
     none
 
@@ -118,23 +131,23 @@ last_digit n small =
     (digit_at (decimal n) (length (decimal n) - 1) (decimal_is_IsNumeral n (omega arith)).0.1 (omega (arith, some_digits n small))).0
 
 -- a line that ends with a number, and begins with a word that is no comment
-meaning_is : (line front : List ℕ) (n : ℕ) (c : Command) → n < 2 ^ 16 → line ≡ front ++ decimal n → comment (word 0 line) ≡ false → command_of (word 0 line) (past 32 (unspaced line)) ≡ Some c → meaning line ≡ Ok (Some c)
-meaning_is line front n c small ends no-comment is =
+meaning_is : (line front : List ℕ) (n : ℕ) (c : Command) → n < 2 ^ 16 → line ≡ front ++ decimal n → no_more (word 0 line) ≡ false → command_of (word 0 line) (past blank (unspaced line)) ≡ Some c → meaning line ≡ Ok (Some c)
+meaning_is line front n c small ends more is =
     let digit : 48 ≤ last line = omega (arith, ap last ends, last_append front (decimal n) (some_digits n small), last_digit n small) in
     let same : line_without_return line ≡ line = cond-false (eqb (last line) 13) _ _ (ne_eqb (last line) 13 (λ return. omega arith)) in
-    ap (λ text. cond (comment (word 0 text)) (Ok None) (required (command_of (word 0 text) (past 32 (unspaced text))))) same
-    ∙ (cond-false (comment (word 0 line)) _ _ no-comment ∙ ap required is)
+    ap (λ text. cond (no_more (word 0 text)) (Ok None) (required (command_of (word 0 text) (past blank (unspaced text))))) same
+    ∙ (cond-false (no_more (word 0 line)) _ _ more ∙ ap required is)
 
 two_end : (kind : List ℕ) (a b : ℕ) → kind ++ (decimal a ++ (codes " " ++ decimal b)) ≡ (kind ++ (decimal a ++ codes " ")) ++ decimal b
 two_end kind a b = simp append_assoc
 
-one_number_line : (a : ℕ) → a < 2 ^ 16 → front 10 (decimal a) ≡ decimal a
+one_number_line : (a : ℕ) → a < 2 ^ 16 → front (λ c. eqb c 10) (decimal a) ≡ decimal a
 one_number_line a small =
-    ap (front 10) (sym (append-nil (decimal a))) ∙ (front_digits 10 (omega arith) (decimal a) [] (all_digits a small) ∙ append-nil (decimal a))
+    ap (front (λ c. eqb c 10)) (sym (append-nil (decimal a))) ∙ (front_digits (λ c. eqb c 10) not_feed (decimal a) [] (all_digits a small) ∙ append-nil (decimal a))
 
-two_numbers_line : (a b : ℕ) → a < 2 ^ 16 → b < 2 ^ 16 → front 10 (decimal a ++ (32 ∷ decimal b)) ≡ decimal a ++ (32 ∷ decimal b)
+two_numbers_line : (a b : ℕ) → a < 2 ^ 16 → b < 2 ^ 16 → front (λ c. eqb c 10) (decimal a ++ (32 ∷ decimal b)) ≡ decimal a ++ (32 ∷ decimal b)
 two_numbers_line a b small-a small_b =
-    front_digits 10 (omega arith) (decimal a) (32 ∷ decimal b) (all_digits a small-a) ∙ ap (λ l. decimal a ++ (32 ∷ l)) (one_number_line b small_b)
+    front_digits (λ c. eqb c 10) not_feed (decimal a) (32 ∷ decimal b) (all_digits a small-a) ∙ ap (λ l. decimal a ++ (32 ∷ l)) (one_number_line b small_b)
 
 pub means_link : (a b : ℕ) → a < 2 ^ 16 → b < 2 ^ 16 → Means (line_of (Link a b)) (Link a b)
 means_link a b small-a small_b =

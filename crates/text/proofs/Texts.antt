@@ -9,9 +9,9 @@ use Rattle.commands.specs.Commands.{bytes, line_of, reading, read_at}
 use Rattle.commands.specs.declared.Command.{Command}
 use Rattle.text.specs.Words.{front}
 use Rattle.text.specs.Lines.{meaning, Means}
-use Rattle.text.specs.Streams.{lines, answer_bytes, line_bytes, first_bytes, Good, FirstBad, TooMany, StandsFor, full_line, Spelled, Appends, Encodes}
-use Rattle.text.specs.declared.stream.BadText.{BadText}
-use Rattle.text.specs.declared.stream.BadText.TheVariants.{Line, TooLong, NoMemory}
+use Rattle.text.specs.Conversion.{lines, answer_bytes, line_bytes, first_bytes, Good, FirstBad, TooMany, StandsFor, full_line, Spelled, Appends, Encodes}
+use Rattle.text.specs.declared.conversion.BadText.{BadText}
+use Rattle.text.specs.declared.conversion.BadText.TheVariants.{Line, TooLong, NoMemory}
 
 -- the first k lines of a text are good, and gave this stream
 pub record Sofar (text : List ℕ) (k : ℕ) (stream : List ℕ) : Type 0 where
@@ -29,19 +29,20 @@ module _ {text : List ℕ} {k : ℕ} {stream : List ℕ} (so_far : Sofar text k 
 
   -- the next line
   module _ (line : List ℕ) (inside : k < length (lines text)) (is : line ≡ get_or (lines text) k []) where
-    first_bad : is_ok (meaning line) ≡ false → FirstBad text (k + 1)
+    first_bad : is_ok (meaning line) ≡ false → FirstBad text (k + 1) line
     first_bad bad =
         record {
           index = k;
           counted = refl;
           inside = inside;
-          bad = ap (λ l. is_ok (meaning l)) (sym is) ∙ bad;
+          line_is = is;
+          bad = bad;
           before = so_far.good;
           short = omega (arith, ap length so_far.bytes_are, so_far.short);
         }
 
     pub refused : (number : ℕ) (after : List ℕ) (e : BadText) → number ≡ k + 1 → Appends line number stream (Err e) after → Encodes text (Err e)
-    refused number after (Line n) counted told = rw (told.0, counted) (first_bad told.1)
+    refused number after (Line n told) counted is = rw (is.0, counted, is.1) (first_bad is.2)
     refused number after TooLong counted told = absurd told
     refused number after NoMemory counted told = tt
 
@@ -100,15 +101,15 @@ ended stream place none =
     (cases_Bool (leb (length stream) place))
 
 -- a line with its line feed is the first line
-lines_full : (l rest : List ℕ) → front 10 l ≡ l → lines (l ++ (10 ∷ rest)) ≡ l ∷ lines rest
+lines_full : (l rest : List ℕ) → front (λ b. eqb b 10) l ≡ l → lines (l ++ (10 ∷ rest)) ≡ l ∷ lines rest
 lines_full [] rest one = refl
 lines_full (b ∷ bs) rest one =
     ⊎_elim
     (λ (feed : eqb b 10 ≡ true).
-    let none = sym (cond-true (eqb b 10) [] (b ∷ front 10 bs) feed) ∙ one in let longer = ap length none in absurd (omega arith))
+    let none = sym (cond-true (eqb b 10) [] (b ∷ front (λ b. eqb b 10) bs) feed) ∙ one in let longer = ap length none in absurd (omega arith))
     (λ (other : eqb b 10 ≡ false).
-    let same = sym (cond-false (eqb b 10) [] (b ∷ front 10 bs) other) ∙ one in
-    let more : front 10 bs ≡ bs = cc in
+    let same = sym (cond-false (eqb b 10) [] (b ∷ front (λ b. eqb b 10) bs) other) ∙ one in
+    let more : front (λ b. eqb b 10) bs ≡ bs = cc in
     cond-false (eqb b 10) _ _ other ∙ ap (onto_first b) (lines_full bs rest more))
     (cases_Bool (eqb b 10))
 

@@ -1,3 +1,5 @@
 pub mod Words
 pub mod Lines
-pub mod Streams
+pub mod Shown
+pub mod Conversion
+pub mod Worked

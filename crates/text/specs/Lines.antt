@@ -1,11 +1,11 @@
 -- The command of a line.
-use Rattle.std.specs.Prelude.{◌≡◌, ℕ, Bool, cond, ◌||◌, List, Some, None, Ok, Err, codes, Option}
-use Rattle.std.specs.Prelude.{Result, ◌==◌, slice_index}
+use Rattle.std.specs.Prelude.{◌≡◌, ℕ, cond, List, Some, None, Ok, Err, codes, Option, Result, ◌==◌}
 use Rattle.std.specs.Str.{bytes_eq}
 use Rattle.commands.specs.declared.Command.{Command}
 use Rattle.commands.specs.declared.Command.TheVariants.{Link, Unlink, Withdraw, Depart, Partner}
 use Rattle.text.specs.declared.BadLine.{BadLine}
-use Rattle.text.specs.Words.{line_without_return, front, word, past, unspaced, empty, number}
+use Rattle.text.specs.Words.{line_without_return, blank, front, word, past, unspaced, no_more}
+use Rattle.text.specs.Words.{number}
 
 abbrev pub command_of_one : List ℕ → ℕ → Option Command
 command_of_one kind a =
@@ -23,16 +23,13 @@ abbrev pub with_load : Option ℕ → (ℕ → Option Command) → Option Comman
 with_load None of = None
 with_load (Some a) of = of a
 
--- the command of a kind with the loads that the rest of its line has: one or two words
+-- the command of a kind with the loads that the rest of its line has: one or two words, and then
+-- nothing or a comment
 abbrev pub command_of : List ℕ → List ℕ → Option Command
 command_of kind rest =
-    with_load (number (word 0 rest)) (λ a. cond (empty (word 1 rest)) (command_of_one kind a)
-    (with_load (number (word 1 rest)) (λ b. cond (empty (word 2 rest)) (command_of_two kind a b)
+    with_load (number (word 0 rest)) (λ a. cond (no_more (word 1 rest)) (command_of_one kind a)
+    (with_load (number (word 1 rest)) (λ b. cond (no_more (word 2 rest)) (command_of_two kind a b)
     None)))
-
--- no word, or a first word that begins with '#'
-abbrev pub comment : List ℕ → Bool
-comment kind = empty kind || slice_index kind 0 == 35
 
 abbrev pub required : Option Command → Result (Option Command) BadLine
 required None = Err (record {})
@@ -42,10 +39,10 @@ required (Some c) = Ok (Some c)
 abbrev pub meaning : List ℕ → Result (Option Command) BadLine
 meaning line =
     let text = line_without_return line in
-    cond (comment (word 0 text)) (Ok None)
-    (required (command_of (word 0 text) (past 32 (unspaced text))))
+    cond (no_more (word 0 text)) (Ok None)
+    (required (command_of (word 0 text) (past blank (unspaced text))))
 
 -- a line without a line feed that means this command
 pub record Means (line : List ℕ) (c : Command) : Type 0 where
-  pub one_line : front 10 line ≡ line
+  pub one_line : front (λ b. b == 10) line ≡ line
   pub means : meaning line ≡ Ok (Some c)

@@ -1,5 +1,5 @@
--- The words of a line, split by spaces.
-use Rattle.std.specs.Prelude.{ℕ, zero, suc, ◌-◌, Bool, cond, ◌&&◌, List, [], ◌∷◌, length, take}
+-- The words of a line, split by spaces and tabs.
+use Rattle.std.specs.Prelude.{ℕ, zero, suc, ◌-◌, Bool, cond, ◌&&◌, ◌||◌, List, [], ◌∷◌, length, take}
 use Rattle.std.specs.Prelude.{Some, None, Option, ◌==◌, nat_le, nat_lt, slice_index}
 use Rattle.std.specs.Str.Parse.{digits_value}
 use Rattle.std.specs.Str.{all_ascii_digits}
@@ -9,28 +9,36 @@ abbrev pub line_without_return : List ℕ → List ℕ
 line_without_return line =
     cond (slice_index line (length line - 1) == 13) (take (length line - 1) line) line
 
--- without the spaces that it begins with
+-- a space or a tab
+abbrev pub blank : ℕ → Bool
+blank b = b == 32 || b == 9
+
+-- without the blanks that it begins with
 abbrev pub unspaced : List ℕ → List ℕ
 unspaced [] = []
-unspaced (b ∷ bs) = cond (b == 32) (unspaced bs) (b ∷ bs)
+unspaced (b ∷ bs) = cond (blank b) (unspaced bs) (b ∷ bs)
 
--- the bytes before the first that is s
-abbrev pub front : ℕ → List ℕ → List ℕ
-front s [] = []
-front s (b ∷ bs) = cond (b == s) [] (b ∷ front s bs)
+-- the bytes before the first that ends them
+abbrev pub front : (ℕ → Bool) → List ℕ → List ℕ
+front ends [] = []
+front ends (b ∷ bs) = cond (ends b) [] (b ∷ front ends bs)
 
 -- the bytes from there on
-abbrev pub past : ℕ → List ℕ → List ℕ
-past s [] = []
-past s (b ∷ bs) = cond (b == s) (b ∷ bs) (past s bs)
+abbrev pub past : (ℕ → Bool) → List ℕ → List ℕ
+past ends [] = []
+past ends (b ∷ bs) = cond (ends b) (b ∷ bs) (past ends bs)
 
 -- the word with this index, counted from 0; no bytes where there are too few words
 abbrev pub word : ℕ → List ℕ → List ℕ
-word zero text = front 32 (unspaced text)
-word (suc k) text = word k (past 32 (unspaced text))
+word zero text = front blank (unspaced text)
+word (suc k) text = word k (past blank (unspaced text))
 
 abbrev pub empty : List ℕ → Bool
 empty bytes = length bytes == 0
+
+-- nothing more is said here: there is no word, or one that begins a comment with '#'
+abbrev pub no_more : List ℕ → Bool
+no_more word = empty word || slice_index word 0 == 35
 
 -- the load that a word of decimal digits names
 abbrev pub number : List ℕ → Option ℕ

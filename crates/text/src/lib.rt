@@ -3,14 +3,16 @@
 
 ghost use Rattle.std.specs.Prelude.{◌≡◌, IfOk, string_bytes};
 ghost use Rattle.commands.specs.Commands.{line_of};
-ghost use Rattle.text.specs.Words.{unspaced, past, word as word_at};
+ghost use Rattle.text.specs.Words.{blank, unspaced, past, word as word_at};
 ghost use Rattle.text.specs.Lines.{command_of_one, command_of_two, command_of, meaning, Means};
+ghost use Rattle.text.specs.Worked.{WorkedLines};
 
 use commands::Command;
 use std::alloc::{AllocError, Global};
-use words::{number, without_return, word};
+use words::{no_more, number, without_return, word};
 
-pub mod stream;
+pub mod conversion;
+mod shown;
 mod words;
 
 /// A line that is neither a command nor a comment.
@@ -38,32 +40,35 @@ fn two_loads(kind: &[u8], a: u16, b: u16) -> Option<Command>
     }
 }
 
-// The command of the words of a line: its kind, and then one or two loads.
+// The command of the words of a line: its kind, and then one or two loads. A comment may follow.
 fn parse_command(line: &[u8]) -> Option<Command>
-    ensures { result ≡ command_of (word_at 0 line.now) (past 32 (unspaced line.now)) }
+    ensures { result ≡ command_of (word_at 0 line.now) (past blank (unspaced line.now)) }
 {
     let kind = word(line, 0);
     let a = number(word(line, 1))?;
     let second = word(line, 2);
-    if second.is_empty() {
+    if no_more(second) {
         return one_load(kind, a);
     }
     let b = number(second)?;
-    if !word(line, 3).is_empty() {
+    if !no_more(word(line, 3)) {
         return None;
     }
     two_loads(kind, a, b)
 }
 
-/// The command of a line without its line feed; none in an empty line and in a comment.
+/// The command of a line without its line feed; `None` where it has no word or only a comment.
+///
+/// Words are separated by spaces and tabs. A comment begins at a word whose first byte is `#`, and
+/// goes on to the end of the line. The time grows with the length of the line.
 pub fn parse_line(line: &[u8]) -> Result<Option<Command>, BadLine>
     ensures { result ≡ meaning line.now }
 {
     let line = without_return(line);
-    match word(line, 0) {
-        [] | [b'#', ..] => Ok(None),
-        _ => parse_command(line).map(Some).ok_or(BadLine),
+    if no_more(word(line, 0)) {
+        return Ok(None);
     }
+    parse_command(line).map(Some).ok_or(BadLine)
 }
 
 /// The line of a command, without a line feed.
@@ -73,3 +78,8 @@ pub fn format_line(heap: Global, command: Command) -> Result<String, AllocError>
 {
     format!(in heap; "{command}")
 }
+
+/// Lines written out: spaces, tabs, comments and what is no command.
+pub fn worked_lines()
+    ensures { WorkedLines }
+{}

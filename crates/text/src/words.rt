@@ -1,6 +1,7 @@
-// The words of a line, split by spaces.
+// The words of a line, split by spaces and tabs.
 ghost use Rattle.std.specs.Prelude.{◌≡◌};
 ghost use Rattle.text.specs.Words.{word as word_at, number as number_named, line_without_return};
+ghost use Rattle.text.specs.Words.{no_more as said_all};
 
 use std::str;
 
@@ -15,10 +16,17 @@ pub(crate) fn without_return(line: &[u8]) -> &[u8]
 pub(crate) fn word(line: &[u8], index: usize) -> &[u8]
     ensures { result.now ≡ word_at index line.now }
 {
-    line.split(|byte| *byte == b' ')
+    line.split(|byte| *byte == b' ' || *byte == b'\t')
         .filter(|word| !word.is_empty())
         .nth(index)
         .unwrap_or(&[])
+}
+
+// Nothing more is said here: there is no word, or one that begins a comment.
+pub(crate) fn no_more(word: &[u8]) -> bool
+    ensures { result ≡ said_all word.now }
+{
+    matches!(word, [] | [b'#', ..])
 }
 
 // The load that a word of decimal digits names.

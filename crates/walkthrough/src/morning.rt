@@ -1,13 +1,13 @@
 // A morning at an exchange, played on a board: what each call answers, and who is paired after it.
 
+use crate::report::{answer, judge};
 use audit::NO_PARTNER;
-use board::Board;
 use bit_matrix::BitMatrix;
+use board::Board;
 use commands::Command;
 use links::{Book, Refused};
 use ranking::{ByNumber, Ranking};
 use std::{array, io};
-use crate::report::{answer, judge};
 
 const SIZE: usize = 8;
 
