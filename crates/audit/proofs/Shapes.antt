@@ -2,11 +2,11 @@
 use Rattle.std.proofs.Common.{◌≡◌, ℕ, Bool, true, false, not, ◌&&◌, eqb, None, sym, refl, ap}
 use Rattle.std.proofs.lemmas.Bool.{eqb-false, ne_eqb, and_parts, and_from, not-true, not_from_false}
 use Rattle.std.specs.Bool.{then_some}
-use Rattle.graph.specs.Graph.{Graph}
+use Rattle.graph.specs.Graph.{Graph, lowest}
 use Rattle.graph.specs.Matching.{Partners}
 use Rattle.graph.specs.Pairs.{is_free}
 use Rattle.graph.proofs.Partners.{none_is, none_free}
-use Rattle.audit.specs.Verdicts.{lowest, ends, lowest_end}
+use Rattle.audit.specs.Verdicts.{ends, lowest_end}
 
 module _ (g : Graph) (p : Partners) (a y : ℕ) where
   -- what is tested of an end: it is free, linked to y, and not a

@@ -12,7 +12,8 @@ use Rattle.audit.specs.declared.Verdict.TheVariants.{Sound, NotReturned, NotLink
 use Rattle.audit.specs.Claims.{claimed, partner_in, passes, is, returned}
 use Rattle.audit.specs.Soundness.{SoundClaims, SoundWhen}
 use Rattle.audit.specs.Verdicts.{meaning, lowest_not_returned, lowest_not_linked, ends, lowest_end, path_of_one_at, lowest_path, lowest_path_of_one, path_over_at, path_of_three_at, lowest_path_of_three, fault, verdict}
-use Rattle.audit.proofs.Lowest.{passing_none, none_passing, guarded_none, none_guarded, failing_none, none_failing}
+use Rattle.graph.proofs.Lowest.{passing_none, none_passing}
+use Rattle.audit.proofs.Lowest.{guarded_none, none_guarded, failing_none, none_failing}
 use Rattle.audit.proofs.Shapes.{ends_from, end_parts}
 
 -- ---- the ladder

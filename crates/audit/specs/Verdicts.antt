@@ -1,9 +1,8 @@
 -- What an audit of claimed partners finds.
-use Rattle.std.specs.Prelude.{◌≡◌, ℕ, zero, suc, Bool, not, ◌&&◌, List, [], ◌∷◌, length, Some}
+use Rattle.std.specs.Prelude.{◌≡◌, ℕ, Bool, not, ◌&&◌, List, [], ◌∷◌, length, Some}
 use Rattle.std.specs.Prelude.{None, Option, Result, ◌==◌, if◌then◌else◌}
-use Rattle.std.specs.Option.{option_or, option_map, option_and_then}
-use Rattle.std.specs.Bool.{then_some}
-use Rattle.graph.specs.Graph.{Graph}
+use Rattle.std.specs.Option.{option_map, option_and_then}
+use Rattle.graph.specs.Graph.{Graph, lowest, lowest_passing}
 use Rattle.graph.specs.Matching.{Partners}
 use Rattle.graph.specs.Pairs.{is_free}
 use Rattle.links.specs.Books.{by}
@@ -23,14 +22,9 @@ meaning (NotLinked a) = (2, a ∷ [])
 meaning (PathOfOne path) = (3, path.0 ∷ path.1 ∷ [])
 meaning (PathOfThree path) = (4, path.0 ∷ path.1 ∷ path.2 ∷ path.3 ∷ [])
 
--- the answer at the lowest number below n that has one
-abbrev pub lowest : {A : Type 0} → ℕ → (ℕ → Option A) → Option A
-lowest zero answer = None
-lowest (suc n) answer = option_or (lowest n answer) (answer n)
-
 -- a load whose partner does not claim it back
 abbrev pub lowest_not_returned : ℕ → Partners → Option ℕ
-lowest_not_returned n p = lowest n (λ a. then_some (not (returned p a)) a)
+lowest_not_returned n p = lowest_passing n (λ a. not (returned p a))
 
 -- a is linked to its partner, if it has one
 abbrev pub is_linked : Graph → Partners → ℕ → Bool
@@ -38,7 +32,7 @@ is_linked g p a = passes (p a) (g.linked a)
 
 -- a load that is not linked to its partner
 abbrev pub lowest_not_linked : Graph → Partners → Option ℕ
-lowest_not_linked g p = lowest g.size (λ a. then_some (not (is_linked g p a)) a)
+lowest_not_linked g p = lowest_passing g.size (λ a. not (is_linked g p a))
 
 -- z is a free load linked to y, other than a
 abbrev pub ends : Graph → Partners → ℕ → ℕ → ℕ → Bool
@@ -46,7 +40,7 @@ ends g p a y z = g.linked y z && is_free p z && not (z == a)
 
 -- the lowest end of a path from a that has come to y
 abbrev pub lowest_end : Graph → Partners → ℕ → ℕ → Option ℕ
-lowest_end g p a y = lowest g.size (λ z. then_some (ends g p a y z) z)
+lowest_end g p a y = lowest_passing g.size (ends g p a y)
 
 -- the first path of one link from a
 abbrev pub path_of_one_at : Graph → Partners → ℕ → Option (ℕ × ℕ)
