@@ -1,4 +1,3 @@
 pub mod Lowest
-pub mod Paths
 pub mod Shapes
 pub mod Soundness

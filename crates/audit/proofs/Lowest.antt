@@ -1,12 +1,12 @@
 -- The answer at the lowest number that has one.
 use Rattle.std.proofs.Common.{◌≡◌, ℕ, zero, suc, ◌+◌, ◌-◌, ◌<◌, Bool, true, false, cond, not, ◌&&◌, Some, None, Option, sym, refl, ap, ◌∙◌, ⊎_elim, add-zero, add-one, arith}
-use Rattle.std.proofs.lemmas.Bool.{cases_eq, not-false, not_from_true}
+use Rattle.std.proofs.lemmas.Bool.{cases_eq, cond-true, not-false, not_from_true}
 use Rattle.std.proofs.lemmas.Iterator.Adapters.{option_map_id}
 use Rattle.std.specs.Bool.{then_some}
 use Rattle.std.specs.List.{find, range_with_len}
 use Rattle.std.specs.Option.{option_or, option_map}
 use Rattle.links.proofs.FindMap.{find_map, find_map-filter, find-find_map}
-use Rattle.links.proofs.Walks.{members, find_of_filter}
+use Rattle.links.proofs.InOrder.{members, find_of_filter}
 use Rattle.audit.specs.Verdicts.{lowest}
 
 pub lowest_none : {A : Type 0} (n : ℕ) (f : ℕ → Option A) → ((k : ℕ) → k < n → f k ≡ None) → lowest n f ≡ None
@@ -46,14 +46,17 @@ passing_none n test told off = lowest_none n (λ k. then_some (test k) (told k))
 pub none_passing : {A : Type 0} (n : ℕ) (test : ℕ → Bool) (told : ℕ → A) → lowest n (λ k. then_some (test k) (told k)) ≡ None → (k : ℕ) → k < n → test k ≡ false
 none_passing n test told e k l = when_none (test k) (told k) (none_below n (λ k. then_some (test k) (told k)) e k l)
 
-pub told_of_lowest : {A : Type 0} (n : ℕ) (test : ℕ → Bool) (told : ℕ → A) → lowest n (λ k. then_some (test k) (told k)) ≡ option_map told (lowest n (λ k. then_some (test k) k))
-told_of_lowest zero test told = refl
-told_of_lowest (suc n) test told = rw (told_of_lowest n test told) (one_more (lowest n (λ k. then_some (test k) k)) (test n))
+-- ---- the answer at the lowest number that passes a test and has one
+
+pub guarded_none : {A : Type 0} (n : ℕ) (test : ℕ → Bool) (f : ℕ → Option A) → ((k : ℕ) → k < n → test k ≡ true → f k ≡ None) → lowest n (λ k. cond (test k) (f k) None) ≡ None
+guarded_none n test f off = lowest_none n (λ k. cond (test k) (f k) None) (λ k l. at (test k) (f k) (off k l))
   where
-    one_more : (o : Option ℕ) (b : Bool) → option_or (option_map told o) (then_some b (told n)) ≡ option_map told (option_or o (then_some b n))
-    one_more (Some k) b = refl
-    one_more None true = refl
-    one_more None false = refl
+    at : {A : Type 0} (b : Bool) (o : Option A) → (b ≡ true → o ≡ None) → cond b o None ≡ None
+    at true o none = none refl
+    at false o none = refl
+
+pub none_guarded : {A : Type 0} (n : ℕ) (test : ℕ → Bool) (f : ℕ → Option A) → lowest n (λ k. cond (test k) (f k) None) ≡ None → (k : ℕ) → k < n → test k ≡ true → f k ≡ None
+none_guarded n test f e k l on = sym (cond-true (test k) (f k) None on) ∙ none_below n (λ k. cond (test k) (f k) None) e k l
 
 -- ---- the lowest number that fails a test
 

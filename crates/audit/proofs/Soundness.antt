@@ -1,17 +1,19 @@
 -- The verdict is sound exactly where the claims are a matching without augmenting paths of one or three links.
 use Rattle.std.proofs.Common.{◌≡◌, ℕ, ◌<◌, Bool, true, cond, List, [], ◌∷◌, length, get_or, Some, None, Ok, Option, sym, refl, ap, ◌∙◌, subst, ⊎_elim, arith}
 use Rattle.std.proofs.lemmas.Bool.{cases_lt, both_ways, false_from_ne_true, eqb-true, eq-eqb, le-ltb}
+use Rattle.std.specs.Option.{option_map, option_and_then}
 use Rattle.graph.specs.Graph.{Graph, Simple}
 use Rattle.graph.specs.Matching.{Partners, Matching, NoAugmenting, FreeLink, FreeWalk}
-use Rattle.graph.proofs.Paths.{of_one, of_three}
+use Rattle.graph.specs.Pairs.{is_free}
+use Rattle.graph.proofs.Partners.{none_is, none_free}
+use Rattle.graph.proofs.Paths.{linked_apart, of_one, of_three}
 use Rattle.audit.specs.declared.Verdict.{Verdict}
 use Rattle.audit.specs.declared.Verdict.TheVariants.{Sound, NotReturned, NotLinked, PathOfOne, PathOfThree}
 use Rattle.audit.specs.Claims.{claimed, partner_in, passes, is, returned}
 use Rattle.audit.specs.Soundness.{SoundClaims, SoundWhen}
-use Rattle.audit.specs.Verdicts.{meaning, lowest_not_returned, lowest_not_linked, linked_free, path_of_one_at, lowest_path_of_one, free_walk, path_over_at, path_of_three_at, lowest_path_of_three, fault, verdict}
-use Rattle.audit.proofs.Lowest.{lowest_none, none_below, passing_none, none_passing, failing_none, none_failing}
-use Rattle.audit.proofs.Paths.{over_at}
-use Rattle.audit.proofs.Shapes.{link_shape, shape_link, walk_shape, shape_walk}
+use Rattle.audit.specs.Verdicts.{meaning, lowest_not_returned, lowest_not_linked, ends, lowest_end, path_of_one_at, lowest_path, lowest_path_of_one, path_over_at, path_of_three_at, lowest_path_of_three, fault, verdict}
+use Rattle.audit.proofs.Lowest.{passing_none, none_passing, guarded_none, none_guarded, failing_none, none_failing}
+use Rattle.audit.proofs.Shapes.{ends_from, end_parts}
 
 -- ---- the ladder
 
@@ -60,6 +62,10 @@ some_is : (o : Option ℕ) (a : ℕ) → o ≡ Some a → is o a ≡ true
 some_is None a e = cc
 some_is (Some b) a e = let same : b ≡ a = cc in eq-eqb b a same
 
+mapped_none : {A B : Type 0} (f : A → B) (o : Option A) → option_map f o ≡ None → o ≡ None
+mapped_none f None e = refl
+mapped_none f (Some x) e = cc
+
 -- ---- claims without faults are sound
 
 module _ (g : Graph) (s : Simple g) (cs : List ℕ) (whole : length cs ≡ g.size) where
@@ -68,6 +74,10 @@ module _ (g : Graph) (s : Simple g) (cs : List ℕ) (whole : length cs ≡ g.siz
 
   linked_below : (a b : ℕ) → g.linked a b ≡ true → b < g.size
   linked_below a b e = s.below b a (s.symmetric b a ∙ e)
+
+  -- what is found over the pair of x
+  over_at : (a x : ℕ) (o : Option ℕ) → p x ≡ o → path_over_at g p a x ≡ option_and_then (λ y. option_map (λ z. (a, x, y, z)) (lowest_end g p a y)) o
+  over_at a x o e = ap (option_and_then (λ y. option_map (λ z. (a, x, y, z)) (lowest_end g p a y))) e
 
   matching_from : lowest_not_returned g.size p ≡ None → lowest_not_linked g p ≡ None → Matching g p
   matching_from back on =
@@ -81,29 +91,31 @@ module _ (g : Graph) (s : Simple g) (cs : List ℕ) (whole : length cs ≡ g.siz
             (none_failing g.size (λ x. passes (p x) (g.linked x)) on a (omega (arith, claimed_below cs a b e)));
       }
 
+  -- without an end, no load passes its tests
+  no_end : (a y z : ℕ) → g.linked y z ≡ true → p z ≡ None → (a ≡ z → ⊥) → lowest_end g p a y ≡ None → ⊥
+  no_end a y z link free apart none =
+      both_ways (ends g p a y z) (none_passing g.size (ends g p a y) (λ x. x) none z (linked_below y z link)) (ends_from g p a y z link free apart)
+
+  -- no path begins at a free load
+  no_path : {A : Type 0} (path_at : ℕ → Option A) → lowest_path g.size p path_at ≡ None → (a b : ℕ) → g.linked a b ≡ true → p a ≡ None → path_at a ≡ None
+  no_path path_at off a b link free = none_guarded g.size (is_free p) path_at off a (s.below a b link) (none_free (p a) free)
+
   none_of_one_from : lowest_path_of_one g p ≡ None → NoAugmenting g p 1
   none_of_one_from off path h = at ((of_one g s p).shape path h)
     where
       at : (a : ℕ) × (b : ℕ) × (path ≡ a ∷ b ∷ []) × FreeLink g p a b → ⊥
       at (a, b, e, walk) =
-          both_ways (linked_free g p a b)
-          (none_passing g.size (linked_free g p a) (λ x. (a, x))
-          (none_below g.size (path_of_one_at g p) off a (s.below a b walk.link))
-          b (linked_below a b walk.link))
-          (shape_link g p a b walk)
+          no_end a a b walk.link walk.ends (linked_apart g s a b walk.link)
+          (mapped_none _ _ (no_path (path_of_one_at g p) off a b walk.link walk.begins))
 
   none_of_three_from : Matching g p → lowest_path_of_three g p ≡ None → NoAugmenting g p 3
   none_of_three_from m off path h = at ((of_three g s p m).shape path h)
     where
       at : (a : ℕ) × (x : ℕ) × (y : ℕ) × (z : ℕ) × (path ≡ a ∷ x ∷ y ∷ z ∷ []) × FreeWalk g p a x y z → ⊥
       at (a, x, y, z, e, walk) =
-          both_ways (free_walk g p a x y z)
-          (none_passing g.size (free_walk g p a x y) (λ w. (a, x, y, w))
-          (sym (over_at g p a x (Some y) walk.pair) ∙ none_below g.size (path_over_at g p a)
-          (none_below g.size (path_of_three_at g p) off a (s.below a x walk.first))
-          x (linked_below a x walk.first))
-          z (linked_below y z walk.last))
-          (shape_walk g p a x y z walk)
+          no_end a y z walk.last walk.ends walk.apart
+          (mapped_none _ _ (sym (over_at a x (Some y) walk.pair)
+          ∙ none_guarded g.size (g.linked a) (path_over_at g p a) (no_path (path_of_three_at g p) off a x walk.first walk.begins) x (linked_below a x walk.first) walk.first))
 
   sound_from : verdict g p ≡ (0, []) → SoundClaims g cs
   sound_from e =
@@ -122,21 +134,29 @@ module _ (g : Graph) (s : Simple g) (cs : List ℕ) (whole : length cs ≡ g.siz
   linked_all : Matching g p → lowest_not_linked g p ≡ None
   linked_all m = failing_none g.size (λ a. passes (p a) (g.linked a)) (λ a _. passes_from (p a) (g.linked a) (m.linked a))
 
+  -- an end that a path leads to would pass its tests
+  end_clear : (a y : ℕ) → ((z : ℕ) → g.linked y z ≡ true → p z ≡ None → (a ≡ z → ⊥) → ⊥) → lowest_end g p a y ≡ None
+  end_clear a y never =
+      passing_none g.size (ends g p a y) (λ z. z) (λ z _.
+      false_from_ne_true (ends g p a y z) (λ on. let (link, free, apart) = end_parts g p a y z on in never z link free apart))
+
   one_clear : NoAugmenting g p 1 → lowest_path_of_one g p ≡ None
   one_clear never =
-      lowest_none g.size (path_of_one_at g p) (λ a _.
-      passing_none g.size (linked_free g p a) (λ b. (a, b)) (λ b _.
-      false_from_ne_true (linked_free g p a b) (λ on. never (a ∷ b ∷ []) ((of_one g s p).path a b (link_shape g p a b on)))))
+      guarded_none g.size (is_free p) (path_of_one_at g p) (λ a _ free.
+      ap (option_map (λ b. (a, b))) (end_clear a a (λ b link free-b _.
+      never (a ∷ b ∷ []) ((of_one g s p).path a b (record { begins = none_is (p a) free; link = link; ends = free-b })))))
 
   three_clear : Matching g p → NoAugmenting g p 3 → lowest_path_of_three g p ≡ None
-  three_clear m never = lowest_none g.size (path_of_three_at g p) (λ a _. lowest_none g.size (path_over_at g p a) (λ x _. at a x (p x) refl))
+  three_clear m never =
+      guarded_none g.size (is_free p) (path_of_three_at g p) (λ a _ free.
+      guarded_none g.size (g.linked a) (path_over_at g p a) (λ x _ link. at a x (none_is (p a) free) link (p x) refl))
     where
-      at : (a x : ℕ) (o : Option ℕ) → p x ≡ o → path_over_at g p a x ≡ None
-      at a x None e = over_at g p a x None e
-      at a x (Some y) e =
-          over_at g p a x (Some y) e
-          ∙ passing_none g.size (free_walk g p a x y) (λ z. (a, x, y, z)) (λ z _.
-          false_from_ne_true (free_walk g p a x y z) (λ on. never (a ∷ x ∷ y ∷ z ∷ []) ((of_three g s p m).path a x y z (walk_shape g p a x y z e on))))
+      at : (a x : ℕ) → p a ≡ None → g.linked a x ≡ true → (o : Option ℕ) → p x ≡ o → path_over_at g p a x ≡ None
+      at a x free link None e = over_at a x None e
+      at a x free link (Some y) e =
+          over_at a x (Some y) e
+          ∙ ap (option_map (λ z. (a, x, y, z))) (end_clear a y (λ z last free-z apart.
+          never (a ∷ x ∷ y ∷ z ∷ []) ((of_three g s p m).path a x y z (record { begins = free; first = link; pair = e; last = last; ends = free-z; apart = apart }))))
 
   clear_from : SoundClaims g cs → verdict g p ≡ (0, [])
   clear_from h =

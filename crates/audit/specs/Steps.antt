@@ -1,11 +1,10 @@
 -- What the steps of an audit answer.
 use Rattle.std.specs.Prelude.{◌≡◌, ℕ, length, Option}
-use Rattle.std.specs.Bool.{then_some}
 use Rattle.graph.specs.Graph.{Graph, Simple}
 use Rattle.graph.specs.Matching.{Partners}
 use Rattle.audit.specs.declared.Claimed.{Claimed}
-use Rattle.audit.specs.Claims.{claimed, and_then}
-use Rattle.audit.specs.Verdicts.{lowest, ends}
+use Rattle.audit.specs.Claims.{claimed}
+use Rattle.audit.specs.Verdicts.{lowest_path}
 
 -- r is the answer that the links and the claims give, where the links came from their making and
 -- each load has a claim
@@ -16,11 +15,9 @@ Tells made graph s answer r =
     → length s.claims.now ≡ (graph s.links.now).size
     → r ≡ answer (graph s.links.now) (claimed s.claims.now)
 
--- the lowest end of a path from a that comes to y
-abbrev pub lowest_end : Graph → Partners → ℕ → ℕ → Option ℕ
-lowest_end g p a y = lowest g.size (λ z. then_some (ends g p a y z) z)
-
--- the first path from a over the pair of x to another free load
-abbrev pub path_beyond : Graph → Partners → ℕ → ℕ → Option (ℕ × ℕ × ℕ × ℕ)
-path_beyond g p a x =
-    and_then (p x) (λ y. lowest g.size (λ z. then_some (ends g p a y z) (a, x, y, z)))
+-- r is the first path of those from a free load that `answers` tells of, with these partners of n
+-- loads
+abbrev pub LowestPath : {A : Type 0} → ℕ → Partners → (ℕ → Option A → Type 0) → Option A → Type 0
+LowestPath {A} n p answers r =
+    (path_at : ℕ → Option A) → ((a : ℕ) (o : Option A) → answers a o → o ≡ path_at a)
+    → r ≡ lowest_path n p path_at

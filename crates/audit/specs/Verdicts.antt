@@ -1,7 +1,7 @@
 -- What an audit of claimed partners finds.
-use Rattle.std.specs.Prelude.{◌≡◌, ℕ, zero, suc, Bool, cond, not, ◌&&◌, List, [], ◌∷◌, length, Some}
-use Rattle.std.specs.Prelude.{None, Option, Result, ◌==◌}
-use Rattle.std.specs.Option.{option_or}
+use Rattle.std.specs.Prelude.{◌≡◌, ℕ, zero, suc, Bool, not, ◌&&◌, List, [], ◌∷◌, length, Some}
+use Rattle.std.specs.Prelude.{None, Option, Result, ◌==◌, if◌then◌else◌}
+use Rattle.std.specs.Option.{option_or, option_map, option_and_then}
 use Rattle.std.specs.Bool.{then_some}
 use Rattle.graph.specs.Graph.{Graph}
 use Rattle.graph.specs.Matching.{Partners}
@@ -13,7 +13,7 @@ use Rattle.links.specs.declared.refusal.Refused.{Refused}
 use Rattle.audit.specs.declared.Verdict.{Verdict}
 use Rattle.audit.specs.declared.Verdict.TheVariants.{Sound, NotReturned, NotLinked, PathOfOne}
 use Rattle.audit.specs.declared.Verdict.TheVariants.{PathOfThree}
-use Rattle.audit.specs.Claims.{claimed, passes, returned, and_then}
+use Rattle.audit.specs.Claims.{claimed, passes, returned}
 
 -- the number of each verdict, and its loads
 abbrev pub meaning : Verdict → ℕ × List ℕ
@@ -40,33 +40,37 @@ is_linked g p a = passes (p a) (g.linked a)
 abbrev pub lowest_not_linked : Graph → Partners → Option ℕ
 lowest_not_linked g p = lowest g.size (λ a. then_some (not (is_linked g p a)) a)
 
--- two free loads that are linked
-abbrev pub linked_free : Graph → Partners → ℕ → ℕ → Bool
-linked_free g p a b = is_free p a && g.linked a b && is_free p b
-
-abbrev pub path_of_one_at : Graph → Partners → ℕ → Option (ℕ × ℕ)
-path_of_one_at g p a = lowest g.size (λ b. then_some (linked_free g p a b) (a, b))
-
-abbrev pub lowest_path_of_one : Graph → Partners → Option (ℕ × ℕ)
-lowest_path_of_one g p = lowest g.size (path_of_one_at g p)
-
 -- z is a free load linked to y, other than a
 abbrev pub ends : Graph → Partners → ℕ → ℕ → ℕ → Bool
 ends g p a y z = g.linked y z && is_free p z && not (z == a)
 
--- from a free load a to a load x, over its pair x, y, and on to another free load z
-abbrev pub free_walk : Graph → Partners → ℕ → ℕ → ℕ → ℕ → Bool
-free_walk g p a x y z = is_free p a && g.linked a x && ends g p a y z
+-- the lowest end of a path from a that has come to y
+abbrev pub lowest_end : Graph → Partners → ℕ → ℕ → Option ℕ
+lowest_end g p a y = lowest g.size (λ z. then_some (ends g p a y z) z)
 
+-- the first path of one link from a
+abbrev pub path_of_one_at : Graph → Partners → ℕ → Option (ℕ × ℕ)
+path_of_one_at g p a = option_map (λ b. (a, b)) (lowest_end g p a a)
+
+-- the first path from a to x, over the pair of x and on to another free load
 abbrev pub path_over_at : Graph → Partners → ℕ → ℕ → Option (ℕ × ℕ × ℕ × ℕ)
 path_over_at g p a x =
-    and_then (p x) (λ y. lowest g.size (λ z. then_some (free_walk g p a x y z) (a, x, y, z)))
+    option_and_then (λ y. option_map (λ z. (a, x, y, z)) (lowest_end g p a y)) (p x)
 
+-- the first path of three links from a
 abbrev pub path_of_three_at : Graph → Partners → ℕ → Option (ℕ × ℕ × ℕ × ℕ)
-path_of_three_at g p a = lowest g.size (path_over_at g p a)
+path_of_three_at g p a =
+    lowest g.size (λ x. if g.linked a x then path_over_at g p a x else None)
+
+-- the first path that begins at a free load
+abbrev pub lowest_path : {A : Type 0} → ℕ → Partners → (ℕ → Option A) → Option A
+lowest_path n p path_at = lowest n (λ a. if is_free p a then path_at a else None)
+
+abbrev pub lowest_path_of_one : Graph → Partners → Option (ℕ × ℕ)
+lowest_path_of_one g p = lowest_path g.size p (path_of_one_at g p)
 
 abbrev pub lowest_path_of_three : Graph → Partners → Option (ℕ × ℕ × ℕ × ℕ)
-lowest_path_of_three g p = lowest g.size (path_of_three_at g p)
+lowest_path_of_three g p = lowest_path g.size p (path_of_three_at g p)
 
 -- the fault that was found, by its number and its loads, or else the others
 abbrev pub fault : {A : Type 0} → ℕ → (A → List ℕ) → Option A → ℕ × List ℕ → ℕ × List ℕ
@@ -84,7 +88,7 @@ verdict g p =
 
 -- the reason to refuse an audit of this many claims over this many loads
 abbrev pub auditing : ℕ → ℕ → Option Reason
-auditing claims loads = cond (claims == loads) None (by Board 3)
+auditing claims loads = if claims == loads then None else by Board 3
 
 -- an audit answers the verdict, unless there is a reason to refuse it
 abbrev pub Audits : Graph → List ℕ → Result Verdict Refused → Type 0

@@ -7,13 +7,13 @@ ghost use Rattle.graph.specs.Pairs.{is_free};
 ghost use Rattle.audit.specs.Claims.{claimed, returned};
 ghost use Rattle.audit.specs.Example.{MiddleClaimed};
 ghost use Rattle.audit.specs.Soundness.{SoundWhen};
-ghost use Rattle.audit.specs.Steps.{Tells, lowest_end, path_beyond};
+ghost use Rattle.audit.specs.Steps.{Tells, LowestPath};
 ghost use Rattle.audit.specs.Verdicts.{is_linked, lowest_not_returned, lowest_not_linked};
-ghost use Rattle.audit.specs.Verdicts.{path_of_one_at, lowest_path_of_one, path_of_three_at};
-ghost use Rattle.audit.specs.Verdicts.{lowest_path_of_three, meaning, verdict, Audits};
+ghost use Rattle.audit.specs.Verdicts.{lowest_end, path_of_one_at, path_over_at, path_of_three_at};
+ghost use Rattle.audit.specs.Verdicts.{meaning, verdict, Audits};
 ghost use Rattle.audit.specs.Words.{verdict_text};
 
-use links::walk::linked_loads;
+use links::members::linked_loads;
 use links::{Layer, Links, Refusal, Refused};
 use std::fmt;
 
@@ -67,7 +67,7 @@ impl fmt::Display for Verdict {
     }
 }
 
-/// The claim of a load that has no partner.
+/// The claim of a load that has no partner: 65,535, which is no load.
 pub const NO_PARTNER: u16 = 65535;
 
 // Links, and the partner that each load claims.
@@ -129,46 +129,41 @@ impl<L: Links> Claimed<'_, L> {
         linked_loads(self.links, y, self.claims.len()).find(|z| *z != a && self.is_free(*z))
     }
 
-    // The first augmenting path of one link that begins at a.
+    // The first augmenting path of one link from a, which is free.
     fn path_of_one(&self, a: usize) -> Option<(usize, usize)>
         ensures { Tells L.Links.made L.Links.graph self.now (λ g p. path_of_one_at g p a) result }
     {
-        if !self.is_free(a) {
-            return None;
-        }
-        let b = self.free_neighbour(a, a)?;
-        Some((a, b))
+        self.free_neighbour(a, a).map(|b| (a, b))
     }
 
-    // The first path from a over the pair of x to another free load.
+    // The first path from a to x, over the pair of x and on to another free load.
     fn path_over(&self, a: usize, x: usize) -> Option<(usize, usize, usize, usize)>
-        ensures { Tells L.Links.made L.Links.graph self.now (λ g p. path_beyond g p a x) result }
+        ensures { Tells L.Links.made L.Links.graph self.now (λ g p. path_over_at g p a x) result }
     {
         let y = self.partner_of(x)?;
-        let z = self.free_neighbour(a, y)?;
-        Some((a, x, y, z))
+        self.free_neighbour(a, y).map(|z| (a, x, y, z))
     }
 
-    // The first augmenting path of three links that begins at a.
+    // The first augmenting path of three links from a, which is free.
     fn path_of_three(&self, a: usize) -> Option<(usize, usize, usize, usize)>
         ensures { Tells L.Links.made L.Links.graph self.now (λ g p. path_of_three_at g p a) result }
     {
-        if !self.is_free(a) {
-            return None;
-        }
         linked_loads(self.links, a, self.claims.len()).find_map(|x| self.path_over(a, x))
     }
 
-    fn first_path_of_one(&self) -> Option<(usize, usize)>
-        ensures { Tells L.Links.made L.Links.graph self.now lowest_path_of_one result }
+    // The first path that `path_from` finds at a free load, from the lowest one on.
+    fn first_path<P, F: Fn(usize) -> Option<P>>(&self, path_from: F) -> Option<P>
+        requires { F.IsAlwaysCallable path_from }
+        ensures { LowestPath (length self.now.claims.now) (claimed self.now.claims.now)
+            (F.post path_from) result }
     {
-        (0..self.claims.len()).find_map(|a| self.path_of_one(a))
-    }
-
-    fn first_path_of_three(&self) -> Option<(usize, usize, usize, usize)>
-        ensures { Tells L.Links.made L.Links.graph self.now lowest_path_of_three result }
-    {
-        (0..self.claims.len()).find_map(|a| self.path_of_three(a))
+        (0..self.claims.len()).find_map(|a| {
+            if self.is_free(a) {
+                path_from(a)
+            } else {
+                None
+            }
+        })
     }
 
     // The verdict on one claim for each load.
@@ -181,18 +176,29 @@ impl<L: Links> Claimed<'_, L> {
         if let Some(a) = self.first_not_linked() {
             return Verdict::NotLinked(a);
         }
-        if let Some(path) = self.first_path_of_one() {
+        if let Some(path) = self.first_path(|a| self.path_of_one(a)) {
             return Verdict::PathOfOne(path);
         }
-        match self.first_path_of_three() {
+        match self.first_path(|a| self.path_of_three(a)) {
             Some(path) => Verdict::PathOfThree(path),
             None => Verdict::Sound,
         }
     }
 }
 
-/// Whether the claims, one for each load, are sound, or what their first fault is. A claim of 65535
-/// is for no partner.
+/// Judges claimed partners: they are sound, or what their first fault is. `claims` has a number for
+/// each load: the partner that it claims, or `NO_PARTNER`. Nothing is changed.
+///
+/// The faults are looked for in the order of the verdicts: a claim that is not returned, then a
+/// partner that is not linked, then an augmenting path of one link, then one of three. Of each kind
+/// the first is the one at the lowest load, and of paths that begin at one load the one that goes
+/// on with the lowest.
+///
+/// Refused with 3 (board) where there are more or fewer claims than loads. Nothing else is refused.
+///
+/// Looks at each claim, and asks for one link of each load with a partner. For the paths it goes
+/// over the links of each free load, and at each of these links over those of the partner found
+/// there.
 pub fn audit<L: Links>(links: &L, claims: &[u16]) -> Result<Verdict, Refused>
     ensures value { L.Links.made links.now → Audits (L.Links.graph links.now) claims.now result }
     ensures sound { L.Links.made links.now → SoundWhen (L.Links.graph links.now) claims.now result }

@@ -4,9 +4,9 @@
 
 ghost use Rattle.std.specs.Prelude.{◌≡◌, ℕ, ◌%◌, ◌≤◌, ◌<◌, ◌*◌, ◌^◌, not, ◌&&◌, ◌||◌, ◌==◌};
 ghost use Rattle.std.specs.Prelude.{if◌then◌else◌, nat_eq, length, IfSome};
-ghost use Rattle.graph.specs.Graph.{count, Next};
-ghost use Rattle.bits.specs.Bit.{bit, NextBit};
-ghost use Rattle.bits.specs.Words.{member, NextNamed};
+ghost use Rattle.graph.specs.Graph.{count, Next, NextBelow};
+ghost use Rattle.bits.specs.Bit.{bit};
+ghost use Rattle.bits.specs.Words.{member};
 
 /// Whether the bit at `place`, modulo 64, is 1.
 pub fn bit_of(word: u64, place: usize) -> bool
@@ -32,7 +32,8 @@ pub fn without_bit(word: u64, place: usize) -> u64
 /// The place of the lowest bit at or above `from` that is 1; `None` where there is none, as from
 /// 64 on.
 pub fn next_bit(word: u64, from: usize) -> Option<usize>
-    ensures { NextBit word from result }
+    ensures next { Next (bit word) from result }
+    ensures bound { IfSome result (λ j. j < 64) }
 {
     if from >= 64 {
         return None;
@@ -70,7 +71,7 @@ const NAMED_WORDS: usize = 1 << 58;
 /// is none. Of a row so long that a usize cannot name all its numbers, those that it can are
 /// searched. Reads each word from that of `from` to that of the member.
 pub fn next_member(words: &[u64], from: usize) -> Option<usize>
-    ensures named { NextNamed words.now from result }
+    ensures named { NextBelow (member words.now) from (2 ^ 64) result }
     ensures next { length words.now ≤ 2 ^ 58 → Next (member words.now) from result }
     ensures bound { IfSome result (λ b. b < 64 * length words.now) }
 {

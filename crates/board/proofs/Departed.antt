@@ -8,7 +8,7 @@ use Rattle.rules.specs.Calls.{Position, depart, reason, by_board, unless_load, p
 use Rattle.rules.specs.Repair.{Ranking, freed}
 use Rattle.tables.specs.declared.Tables.{Tables}
 use Rattle.tables.specs.Views.{partners_of}
-use Rattle.tables.specs.Changes.{OfBook, Parting}
+use Rattle.tables.specs.Changes.{OfLinks, Parting}
 use Rattle.board.specs.declared.Board.{Board}
 use Rattle.board.specs.Boards.{position, Stands, FollowsBook, FollowsRules}
 use Rattle.board.specs.Leaving.{RemovesLinks}
@@ -35,7 +35,7 @@ module _ {B R : Type 0} (graph : B → Graph) (made : B → Type 0) (ledger : B 
       granted_book graph made ledger before s (depart a) granted tt t (as_by_rules (Some b)) (ap as_by_rules pair)
       (book_left graph made ledger (isolated g a) (isolated_simple g a simple) (released g l a) b k u (removes-a m simple).book t.book v removes-b)
 
-  pub departed_rules : Stands graph made ledger s → OfBook (made t.book) (graph t.book) (λ h. Parting h a b v t.tables) →
+  pub departed_rules : Stands graph made ledger s → OfLinks (made t.book) (graph t.book) (λ h. Parting h a b v t.tables) →
       FollowsRules graph made ledger (before s.ranking) s (depart a) (Ok tt) t
   departed_rules stands parts =
       let p = partners_of s.tables in

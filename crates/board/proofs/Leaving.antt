@@ -17,7 +17,7 @@ use Rattle.rules.specs.OneByOne.{stripped, stripped_ledger}
 use Rattle.rules.proofs.OneByOne.{stripped_size}
 use Rattle.tables.specs.declared.Tables.{Tables}
 use Rattle.tables.specs.Views.{partners_of, Agrees}
-use Rattle.tables.specs.Changes.{OfBook, Relinking, Parting}
+use Rattle.tables.specs.Changes.{OfLinks, Relinking, Parting}
 use Rattle.board.specs.declared.Board.{Board}
 use Rattle.board.specs.Boards.{Stands as BoardStands}
 use Rattle.board.specs.Leaving.{LinksRemoved, RemovesLinks}
@@ -52,7 +52,7 @@ module _ {B : Type 0} (graph : B → Graph) (made : B → Type 0) (ledger : B �
     pub now_simple : Simple (graph s)
     now_simple = subst Simple (sym so_far.book.graph_is) (stripped_simple g a simple from)
 
-    -- a link that the walk comes to can be removed
+    -- a link that the loop comes to can be removed
     pub never_refused : (b : ℕ) → First ((graph s).linked a) from b → (r : Reason) → removing (graph s) a b ≡ Some r → ⊥
     never_refused b next r why = both_ways (is_some (removing (graph s) a b)) (ap is_some (next_removable (graph s) now_simple a from b next)) (ap is_some why)
 
@@ -146,7 +146,7 @@ module _ {B : Type 0} (graph : B → Graph) (made : B → Type 0) (ledger : B �
       }
 
   pub partners_parted : (a b : ℕ) → TwoLoads g.size a b → p a ≡ Some b → p b ≡ Some a → (v : Tables) →
-      OfBook (made s) (graph s) (λ h. Parting h a b u v) → InStep graph made ledger g l (freed a (freed b p)) s v
+      OfLinks (made s) (graph s) (λ h. Parting h a b u v) → InStep graph made ledger g l (freed a (freed b p)) s v
   partners_parted a b two pair back v parts =
       let part = parts so.book.still_made graph_simple in
       let of-p = sym so.partners in

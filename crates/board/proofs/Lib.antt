@@ -3,6 +3,7 @@ pub mod Numbers
 pub mod Opened
 pub mod Stripped
 pub mod Leaving
+pub mod Repairing
 pub mod Steps
 pub mod Linked
 pub mod Unlinked

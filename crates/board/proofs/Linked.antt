@@ -30,10 +30,10 @@ module _ {B R : Type 0} (graph : B → Graph) (made : B → Type 0) (ledger : B 
   pub linked_book : FollowsBook graph made ledger (before s.ranking) s (link a b) (Ok tt) t
   linked_book = granted_book graph made ledger before s (link a b) granted tt t _ refl book
 
-  pub linked_rules : Stands graph made ledger s → (n : ℕ) → n ≡ threshold (ledger t.book).limit → Bounded (graph t.book) (ledger t.book) → (u : Tables) → Relinking true a b s.tables u →
-      (Simple (graph t.book) → Changes (graph t.book) (repair (before s.ranking) n (graph t.book) (in_order a b)) u t.tables) →
+  pub linked_rules : Stands graph made ledger s → Bounded (graph t.book) (ledger t.book) → (u : Tables) → Relinking true a b s.tables u →
+      (Simple (graph t.book) → Changes (graph t.book) (repair (before s.ranking) (threshold (ledger t.book).limit) (graph t.book) (in_order a b)) u t.tables) →
       FollowsRules graph made ledger (before s.ranking) s (link a b) (Ok tt) t
-  linked_rules stands n n-is bounded u relinked change =
+  linked_rules stands bounded u relinked change =
       let g = graph s.book in
       let l = ledger s.book in
       let p = partners_of s.tables in
@@ -45,4 +45,4 @@ module _ {B R : Type 0} (graph : B → Graph) (made : B → Type 0) (ledger : B 
         book = book;
         agrees = relinked.agrees g simple two.a_below two.b_below two.apart addable.off stands.agrees;
         partners = relinked.partners;
-      }) n n-is bounded (matching_added g a b p stands.sound.healthy.matching) (change (subst Simple (sym book.graph_is) simple-added))
+      }) bounded (matching_added g a b p stands.sound.healthy.matching) (change (subst Simple (sym book.graph_is) simple-added))

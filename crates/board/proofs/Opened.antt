@@ -17,10 +17,10 @@ use Rattle.board.specs.Boards.{position, Opens}
 empty_matching : (g : Graph) → Matching g (λ _. None)
 empty_matching g = record { returned = λ a b e. cc; linked = λ a b e. cc }
 
-pub opened_holds : (before : Ranking) (g : Graph) (l : Ledger) (t n : ℕ) {s u : Tables} → t ≡ threshold l.limit → n ≡ g.size →
-    AllFree g s → Changes g (repair before t g (up_to n [])) s u → Holds g (opened before g l).partners u
-opened_holds before g l t n {s} {u} t-is n-is free change =
-    let same : repair before t g (up_to n []) (partners_of s) ≡ (opened before g l).partners = λ i. repair before (t-is i) g (up_to (n-is i) []) (free.partners i) in
+pub opened_holds : (before : Ranking) (g : Graph) (l : Ledger) (n : ℕ) {s u : Tables} → n ≡ g.size →
+    AllFree g s → Changes g (repair before (threshold l.limit) g (up_to n [])) s u → Holds g (opened before g l).partners u
+opened_holds before g l n {s} {u} n-is free change =
+    let same : repair before (threshold l.limit) g (up_to n []) (partners_of s) ≡ (opened before g l).partners = λ i. repair before (threshold l.limit) g (up_to (n-is i) []) (free.partners i) in
     subst (λ (q : Partners). Holds g q u) same (change free.agrees (subst (Matching g) (sym free.partners) (empty_matching g)))
 
 module _ {B R : Type 0} (graph : B → Graph) (made : B → Type 0) (ledger : B → Ledger) (before : R → Ranking) (book : B) (ranking : R) (u : Tables) where

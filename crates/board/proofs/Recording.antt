@@ -2,21 +2,21 @@
 use Rattle.std.proofs.Common.{◌≡◌, ℕ, ◌+◌, ◌<◌, ◌≤◌, true, false, Option, sym, ap, ◌∙◌, subst, inl, inr, arith}
 use Rattle.std.proofs.lemmas.Bool.{cases_eq}
 use Rattle.std.proofs.lemmas.Bool.Decides.{nat_tests}
-use Rattle.graph.specs.Graph.{Graph, Simple, First, added, edgeless}
-use Rattle.links.specs.declared.walk.Walk.{Walk}
-use Rattle.links.specs.declared.walk.LinkedTo.{LinkedTo}
-use Rattle.links.specs.Walks.{NextBelow, past, Walks, Over}
+use Rattle.graph.specs.Graph.{Graph, Simple, First, added, no_links, NextBelow}
+use Rattle.links.specs.declared.members.MembersInOrder.{MembersInOrder}
+use Rattle.links.specs.declared.members.LinkedTo.{LinkedTo}
+use Rattle.links.specs.InOrder.{past, GivesNext, Over}
 use Rattle.tables.specs.declared.Tables.{Tables}
 use Rattle.tables.specs.Views.{Agrees, New}
 use Rattle.tables.specs.Changes.{Relinking}
 use Rattle.board.specs.Recording.{links_before, AllFree}
 
--- a walk over the loads that are linked to a goes on over them, from past the one that it gave
-pub linked_step : {L : Type 0} (made : L → Type 0) (graph : L → Graph) (links : L) (a end : ℕ) {v w : Walk (LinkedTo L)} {r : Option ℕ} → Over links a end v →
-    Walks (λ s. made s.links.now) (λ s. (graph s.links.now).linked s.load) v r w → Over links a end w × (w.from ≡ past v.from r) × (made links → NextBelow ((graph links).linked a) v.from end r)
+-- an iterator over the loads that are linked to a goes on from past the one that it gave
+pub linked_step : {L : Type 0} (made : L → Type 0) (graph : L → Graph) (links : L) (a end : ℕ) {v w : MembersInOrder (LinkedTo L)} {r : Option ℕ} → Over links a end v →
+    GivesNext (λ s. made s.links.now) (λ s. (graph s.links.now).linked s.load) v r w → Over links a end w × (w.from ≡ past v.from r) × (made links → NextBelow ((graph links).linked a) v.from end r)
 linked_step {L} made graph links a end {v} {w} {r} over step = (
   rw step.after (record { links_are = over.links_are; load_is = over.load_is; end_is = over.end_is }),
-  ap (λ (s : Walk (LinkedTo L)). s.from) step.after,
+  ap (λ (s : MembersInOrder (LinkedTo L)). s.from) step.after,
   λ sure. subst (λ (T : Type 0). T) (λ i. NextBelow ((graph (over.links_are i)).linked (over.load_is i)) v.from (over.end_is i) r)
       (step.next (subst made (sym over.links_are) sure)),
 )
@@ -82,7 +82,7 @@ module _ (g : Graph) (s : Simple g) where
 
   pub record_none : {t : Tables} → New t → AllFree (links_before g 0 0) t
   record_none {t} new =
-      let same : edgeless g.size ≡ links_before g 0 0 = λ i. record { size = g.size; linked = λ x y. none_before x y i } in
+      let same : no_links g.size ≡ links_before g 0 0 = λ i. record { size = g.size; linked = λ x y. none_before x y i } in
       record { partners = new.partners; agrees = subst (λ (h : Graph). Agrees h t) same (new.agrees g.size) }
 
   pub record_all : {t : Tables} (n : ℕ) → n ≡ g.size → AllFree (links_before g n 0) t → AllFree g t

@@ -64,19 +64,18 @@ module _ {B R : Type 0} (graph : B → Graph) (made : B → Type 0) (ledger : B 
 
       -- granted with a repair: of the tables u, in which the partners are p and which agree with the new graph h
       pub repaired_rules : (set : List ℕ) (p : Partners) → granted order x c ≡ repaired order h l set p →
-          (u : Tables) → InStep graph made ledger h l p t.book u → (n : ℕ) → n ≡ threshold (ledger t.book).limit → Bounded (graph t.book) (ledger t.book) → Matching h p →
-          Changes (graph t.book) (repair order n (graph t.book) set) u t.tables → FollowsRules graph made ledger order s c (Ok v) t
-      repaired_rules set p rules u so n n-is bounded matching change =
+          (u : Tables) → InStep graph made ledger h l p t.book u → Bounded (graph t.book) (ledger t.book) → Matching h p →
+          Changes (graph t.book) (repair order (threshold (ledger t.book).limit) (graph t.book) set) u t.tables → FollowsRules graph made ledger order s c (Ok v) t
+      repaired_rules set p rules u so bounded matching change =
           let graph_is = so.book.graph_is in
           let ledger_is = so.book.ledger_is in
           let matching-now = subst (λ (k : Graph). Matching k (partners_of u)) (sym graph_is) (subst (Matching h) (sym so.partners) matching) in
           let holds = change (subst (λ (k : Graph). Agrees k u) (sym graph_is) so.agrees) matching-now in
-          let n-rules : n ≡ threshold l.limit = n-is ∙ ap (λ (k : Ledger). threshold k.limit) ledger_is in
           let within = subst (λ (k : Ledger). link_count h ≤ k.limit) ledger_is (subst (λ (k : Graph). link_count k ≤ (ledger t.book).limit) graph_is bounded.within) in
           granted_rules (repair order (threshold l.limit) h set p) rules (record {
             book = so.book;
             agrees = subst (λ (k : Graph). Agrees k t.tables) graph_is holds.agrees;
-            partners = holds.partners ∙ (λ i. repair order (n-rules i) (graph_is i) set (so.partners i));
+            partners = holds.partners ∙ (λ i. repair order (threshold (ledger_is i).limit) (graph_is i) set (so.partners i));
           }) within
 
   module _ {F : Type 0} (fixed : B → F) where
@@ -98,9 +97,6 @@ module _ {B R : Type 0} (graph : B → Graph) (made : B → Type 0) (ledger : B 
         stands = stands;
       };
     }
-
-    pub refused_steps : (e : Refused) → (made s.book → reason x c ≡ Some (told e)) → Steps graph made ledger fixed before s c (Err e) s
-    refused_steps e why = same_steps (Err e) (λ m. refused_unchanged order x c (told e) (why m)) why (λ _. tt)
 
     pub question_steps : is_question c ≡ true → (r : Result (Answer c) Refused) → (made s.book → Answers (reason x c) r (λ _. Unit {0})) →
         (Stands graph made ledger s → IfOk r (λ v. v ≡ answer x c)) → Steps graph made ledger fixed before s c r s

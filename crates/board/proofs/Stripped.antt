@@ -1,4 +1,4 @@
--- The links of a load removed one by one, by a walk over them.
+-- The links of a load removed one by one.
 use Rattle.std.proofs.Common.{◌≡◌, ℕ, zero, suc, ◌+◌, ◌<◌, ◌≤◌, false, sym, refl, ap, ◌∙◌, inl, inr, add-one, arith}
 use Rattle.std.proofs.lemmas.Bool.{cases_Bool, cases_lt, cond-true, cond-false}
 use Rattle.std.proofs.lemmas.Bool.Decides.{nat_tests}
@@ -34,7 +34,7 @@ module _ (g : Graph) (a : ℕ) where
         (cond-false (g.linked a m) _ _ off ∙ before.0, cond-false (g.linked a m) _ _ off ∙ before.1)
   ]
 
-  -- the next link of the walk is removed
+  -- the next link is removed
   pub strip_more : (from b : ℕ) → First ((stripped g a from).linked a) from b → (l : Ledger) →
       (removed (stripped g a from) a b ≡ stripped g a (b + 1)) × (raised (stripped_ledger g l a from) a b ≡ stripped_ledger g l a (b + 1))
   strip_more from b next l =

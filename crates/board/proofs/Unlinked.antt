@@ -27,11 +27,11 @@ module _ {B R : Type 0} (graph : B → Graph) (made : B → Type 0) (ledger : B 
   pub unlinked_book : FollowsBook graph made ledger (before s.ranking) s (unlink a b) (Ok tt) t
   unlinked_book = granted_book graph made ledger before s (unlink a b) granted tt t _ refl book
 
-  pub unlinked_rules : Stands graph made ledger s → (n : ℕ) → n ≡ threshold (ledger t.book).limit → Bounded (graph t.book) (ledger t.book) → (u w : Tables) → Relinking false a b s.tables u →
+  pub unlinked_rules : Stands graph made ledger s → Bounded (graph t.book) (ledger t.book) → (u w : Tables) → Relinking false a b s.tables u →
       (Simple (graph t.book) → PartsPartners (graph t.book) a b u w) →
-      (Simple (graph t.book) → Changes (graph t.book) (repair (before s.ranking) n (graph t.book) (in_order a b)) w t.tables) →
+      (Simple (graph t.book) → Changes (graph t.book) (repair (before s.ranking) (threshold (ledger t.book).limit) (graph t.book) (in_order a b)) w t.tables) →
       FollowsRules graph made ledger (before s.ranking) s (unlink a b) (Ok tt) t
-  unlinked_rules stands n n-is bounded u w relinked parts change =
+  unlinked_rules stands bounded u w relinked parts change =
       let g = graph s.book in
       let p = partners_of s.tables in
       let simple = stands.sound.simple in
@@ -50,4 +50,4 @@ module _ {B R : Type 0} (graph : B → Graph) (made : B → Type 0) (ledger : B 
         book = book;
         agrees = subst (λ (k : Graph). Agrees k w) book.graph_is done.agrees;
         partners = done.partners ∙ ap (λ (q : Partners). parted a b q (q a)) relinked.partners;
-      }) n n-is bounded (parted_is g a b p matching).matching (change simple-removed)
+      }) bounded (parted_is g a b p matching).matching (change simple-removed)

@@ -4,14 +4,15 @@ use Rattle.graph.specs.Graph.{Graph, Simple}
 use Rattle.graph.specs.Isolated.{isolated}
 use Rattle.graph.proofs.Changes.{isolated_simple}
 use Rattle.links.specs.Books.{Ledger, Bounded}
-use Rattle.rules.specs.Calls.{Position, withdraw, unless_load, parted_from, the_one, released, repaired}
+use Rattle.std.specs.Option.{option_to_list}
+use Rattle.rules.specs.Calls.{Position, withdraw, unless_load, parted_from, released, repaired}
 use Rattle.rules.specs.Repair.{Ranking, repair, freed}
 use Rattle.rules.specs.Threshold.{threshold}
 use Rattle.rules.proofs.Fewer.{withdraw_fewer}
 use Rattle.rules.proofs.Reasons.{load_none}
 use Rattle.tables.specs.declared.Tables.{Tables}
 use Rattle.tables.specs.Views.{partners_of}
-use Rattle.tables.specs.Changes.{OfBook, Parting}
+use Rattle.tables.specs.Changes.{OfLinks, Parting}
 use Rattle.repair.specs.Holds.{Changes}
 use Rattle.board.specs.declared.Board.{Board}
 use Rattle.board.specs.Boards.{Stands, FollowsBook, FollowsRules}
@@ -25,7 +26,7 @@ module _ {B R : Type 0} (graph : B → Graph) (made : B → Type 0) (ledger : B 
   g = graph s.book
 
   abbrev as_by_rules : Option ℕ → Position
-  as_by_rules o = repaired (before s.ranking) (isolated g a) (released g (ledger s.book) a) (the_one o) (parted_from a (partners_of s.tables) o)
+  as_by_rules o = repaired (before s.ranking) (isolated g a) (released g (ledger s.book) a) (option_to_list o) (parted_from a (partners_of s.tables) o)
 
   pub withdrawn_book : made s.book → Simple g → (u : Tables) → RemovesLinks graph made ledger a s.book s.tables t.book u →
       FollowsBook graph made ledger (before s.ranking) s (withdraw a) (Ok tt) t
@@ -45,11 +46,11 @@ module _ {B R : Type 0} (graph : B → Graph) (made : B → Type 0) (ledger : B 
         (links_left t.tables removes) (omega (arith, fewer, stands.sound.bounded.within))
 
     pub withdrawn_partner : (b : ℕ) → partners_of s.tables a ≡ Some b → (u v : Tables) → RemovesLinks graph made ledger a s.book s.tables t.book u →
-        OfBook (made t.book) (graph t.book) (λ h. Parting h a b u v) →
-        (n : ℕ) → (made t.book → n ≡ threshold (ledger t.book).limit) → (made t.book → Bounded (graph t.book) (ledger t.book)) →
-        OfBook (made t.book) (graph t.book) (λ h. Changes h (repair (before s.ranking) n h (the_one (Some b))) v t.tables) →
+        OfLinks (made t.book) (graph t.book) (λ h. Parting h a b u v) →
+        (made t.book → Bounded (graph t.book) (ledger t.book)) →
+        OfLinks (made t.book) (graph t.book) (λ h. Changes h (repair (before s.ranking) (threshold (ledger t.book).limit) h (option_to_list (Some b))) v t.tables) →
         FollowsRules graph made ledger (before s.ranking) s (withdraw a) (Ok tt) t
-    withdrawn_partner b pair u v removes parts n n-is bounded change =
+    withdrawn_partner b pair u v removes parts bounded change =
         let p = partners_of s.tables in
         let h = isolated g a in
         let l = released g (ledger s.book) a in
@@ -59,5 +60,5 @@ module _ {B R : Type 0} (graph : B → Graph) (made : B → Type 0) (ledger : B 
         let still = left.book.still_made in
         repaired_rules graph made ledger before s (withdraw a) none tt t stands refl h l (b ∷ []) (freed a (freed b p)) (ap as_by_rules pair) v
         (partners_parted graph made ledger h simple l p t.book u left a b (partners_two graph made ledger s stands a b pair) pair (matching.returned a b pair) v parts)
-        n (n-is still) (bounded still) (withdraw_fewer g stands.sound.simple a p matching (Some b) pair).matching
+        (bounded still) (withdraw_fewer g stands.sound.simple a p matching (Some b) pair).matching
         (change still (subst Simple (sym left.book.graph_is) simple))

@@ -24,6 +24,10 @@ module _ {B R F : Type 0} (graph : B → Graph) (made : B → Type 0) (ledger : 
         (c : Call) (r : Result (Answer c) Refused) (t : Board B R) →
         Steps graph made ledger fixed before s c r t → Run first t
 
+  -- calls alone lead from the board s to t: each run that came to s has come to t
+  abbrev pub CarriesRuns : Board B R → Board B R → Type 0
+  CarriesRuns s t = (first : Board B R) → Run first s → Run first t
+
   -- a call c on s is answered r and leads to t by the rules: refusal or answer, links, spares and
   -- partners are theirs; size, limit and barred pairs stay, and spares and room follow each link;
   -- and at most 6 loads have another partner after a linking, 12 after an unlinking, 7 after a

@@ -1,7 +1,7 @@
 // The calls that change a board.
 ghost use Rattle.std.specs.Prelude.{◌≡◌};
 ghost use Rattle.rules.specs.Calls.{link, unlink, withdraw, depart};
-ghost use Rattle.tables.specs.Changes.{OfBook};
+ghost use Rattle.tables.specs.Changes.{OfLinks};
 ghost use Rattle.board.specs.Boards.{Steps};
 ghost use Rattle.board.specs.Leaving.{RemovesLinks};
 ghost use Rattle.board.specs.Parting.{PartsPartners};
@@ -13,7 +13,7 @@ use tables::Tables;
 
 // If a and b are partners, they part.
 fn part_partners<L: Links>(tables: &mut Tables, links: &L, a: usize, b: usize)
-    ensures { OfBook (L.Links.made links.now) (L.Links.graph links.now)
+    ensures { OfLinks (L.Links.made links.now) (L.Links.graph links.now)
         (λ g. PartsPartners g a b tables.old tables.new) }
 {
     if tables.partner(a) == Some(b) {
@@ -42,8 +42,16 @@ fn remove_links<B: Book>(book: &mut B, tables: &mut Tables, a: usize)
 }
 
 impl<B: Book, R: Ranking> Board<B, R> {
-    /// Links a and b, and repairs the matching at both. It looks at the links of the two loads, and
-    /// at those of the at most six loads whose partner changes.
+    /// Links `a` and `b`, and repairs the matching at both, the lower first.
+    ///
+    /// The first of these that holds refuses the call, and the board stays as it was: one of the
+    /// two is not a load (4, board), they are the same (5, board), the pair is barred (8, book),
+    /// they are linked already (6, book), either has no spare left (9, book), the book has no room
+    /// left (10, book).
+    ///
+    /// At most 6 loads have another partner afterwards. Where both had one before, none has, and
+    /// the call costs no more than the linking. Else it looks at the links of the free ones of the
+    /// two, and at those of each load that becomes free or is no longer.
     pub fn link(&mut self, a: usize, b: usize) -> Result<(), Refused>
         ensures { Steps B.Links.graph B.Links.made B.Book.ledger B.Book.fixed R.Ranking.before
             self.old (link a b) result self.new }
@@ -55,9 +63,15 @@ impl<B: Book, R: Ranking> Board<B, R> {
         Ok(())
     }
 
-    /// Unlinks a and b, which part if they are partners, and repairs the matching at both. It looks
-    /// at the links of the two loads, and at those of the at most twelve loads whose partner
-    /// changes.
+    /// Unlinks `a` and `b`, which part if they are partners, and repairs the matching at both, the
+    /// lower first.
+    ///
+    /// The first of these that holds refuses the call, and the board stays as it was: one of the
+    /// two is not a load (4, board), they are the same (5, board), they are not linked (7, book).
+    ///
+    /// At most 12 loads have another partner afterwards. Where both keep a partner, none has, and
+    /// the call costs no more than the unlinking. Else it looks at the links of the free ones of
+    /// the two, and at those of each load that becomes free or is no longer.
     pub fn unlink(&mut self, a: usize, b: usize) -> Result<(), Refused>
         ensures { Steps B.Links.graph B.Links.made B.Book.ledger B.Book.fixed R.Ranking.before
             self.old (unlink a b) result self.new }
@@ -70,9 +84,14 @@ impl<B: Book, R: Ranking> Board<B, R> {
         Ok(())
     }
 
-    /// Withdraws a load: all its links are removed, and the partner that it had is repaired. It
-    /// looks at the links of the load, and at those of the at most seven loads whose partner
-    /// changes.
+    /// Withdraws a load: all its links are removed, it parts from its partner if it has one, and
+    /// the matching is repaired at that partner. The number stays a load, without links.
+    ///
+    /// Refused with 4 (board) where `a` is not a load. The board stays as it was then.
+    ///
+    /// At most 7 loads have another partner afterwards; without a partner before, none has. Looks
+    /// at the links of `a`, and then at those of its partner and of each load that becomes free or
+    /// is no longer.
     pub fn withdraw(&mut self, a: usize) -> Result<(), Refused>
         ensures { Steps B.Links.graph B.Links.made B.Book.ledger B.Book.fixed R.Ranking.before
             self.old (withdraw a) result self.new }
@@ -87,8 +106,14 @@ impl<B: Book, R: Ranking> Board<B, R> {
         Ok(())
     }
 
-    /// A load departs with its partner: all links of both are removed, and nothing is repaired. It
-    /// looks at the links of the two loads.
+    /// A load departs with its partner: all links of both are removed, they part, and nothing is
+    /// repaired, since no other load has lost its partner. Both numbers stay loads, without links.
+    ///
+    /// Refused with 4 (board) where `a` is not a load, then with 11 (board) where it has no
+    /// partner. The board stays as it was then.
+    ///
+    /// Those two have no partner afterwards, and all others the one that they had. Looks at the
+    /// links of the two.
     pub fn depart(&mut self, a: usize) -> Result<(), Refused>
         ensures { Steps B.Links.graph B.Links.made B.Book.ledger B.Book.fixed R.Ranking.before
             self.old (depart a) result self.new }

@@ -16,8 +16,15 @@ mod changes;
 mod opening;
 mod questions;
 
-/// A book, the ranking by which its loads choose, and the tables in which their partners stand.
-#[derive(Drop)]
+/// A book of links with a matching on it: the book, the ranking by which its loads choose, and the
+/// tables in which their partners stand.
+///
+/// After `Board::open` and after every call, partners are each other's and linked, no augmenting
+/// path has one or three links, and no free load has more links than the threshold. A call that is
+/// refused leaves the board as it was. Its refusal tells the number of the reason and the layer
+/// that found it: the board itself, or the book below it. No call changes the ranking, the size,
+/// the limit or the barred pairs.
+#[derive(Debug, Drop)]
 pub struct Board<B, R> {
     book: B,
     ranking: R,
@@ -36,6 +43,7 @@ fn repair_of<'a, B: Book, R: Ranking>(book: &'a B, ranking: &'a R) -> Repair<'a,
 }
 
 impl<B: Book, R: Ranking> Board<B, R> {
+    // Refuses with 4 (board) where `a` is not a load.
     fn check_load(&self, a: usize) -> Result<(), Refused>
         ensures load { B.Links.made self.now.book →
             Answers (unless_load (B.Links.graph self.now.book) a None) result (λ _. Unit {0}) }

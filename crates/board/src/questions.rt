@@ -8,7 +8,8 @@ use links::{Book, Refused};
 use ranking::Ranking;
 
 impl<B: Book, R: Ranking> Board<B, R> {
-    /// The partner of a load, if it has one. Refused with 4 (board) where `a` is not a load.
+    /// The partner of a load, if it has one. Refused with 4 (board) where `a` is not a load. Looks
+    /// at one record of the tables, and changes nothing.
     pub fn partner(&self, a: usize) -> Result<Option<usize>, Refused>
         ensures answers { Steps B.Links.graph B.Links.made B.Book.ledger B.Book.fixed
             R.Ranking.before self.now (ask_partner a) result self.now }
@@ -18,17 +19,19 @@ impl<B: Book, R: Ranking> Board<B, R> {
         Ok(self.tables.partner(a))
     }
 
-    /// How many free loads a load is linked to. Refused with 4 (board) where `a` is not a load.
+    /// How many free loads a load is linked to, 0 to 255. Refused with 4 (board) where `a` is not a
+    /// load. Looks at one record of the tables, and changes nothing.
     pub fn free_links(&self, a: usize) -> Result<usize, Refused>
         ensures { Steps B.Links.graph B.Links.made B.Book.ledger B.Book.fixed R.Ranking.before
             self.now (ask_free_links a) result self.now }
     {
         self.check_load(a)?;
-        Ok(self.tables.free_links(a))
+        Ok(self.tables.free_degree(a))
     }
 
-    /// The smallest free load at or above `from` that a load is linked to, if there is one. Refused
-    /// with 4 (board) where `a` is not a load.
+    /// The smallest free load at or above `from` that a load is linked to, if there is one. `from`
+    /// may be any number. Refused with 4 (board) where `a` is not a load. Looks at up to four words
+    /// of the tables, and changes nothing.
     pub fn next_free_link(&self, a: usize, from: usize) -> Result<Option<usize>, Refused>
         ensures { Steps B.Links.graph B.Links.made B.Book.ledger B.Book.fixed R.Ranking.before
             self.now (ask_next_free a from) result self.now }
@@ -37,18 +40,19 @@ impl<B: Book, R: Ranking> Board<B, R> {
         Ok(self.tables.next_free_linked(a, from))
     }
 
-    /// The book, whose links and spares can be asked for.
+    /// The book, whose links, spares and room can be asked for. Looks at nothing.
     pub fn book(&self) -> &B
         ensures { result.now ≡ self.now.book }
     {
         &self.book
     }
 
-    /// The number of pairs. It looks at every load.
-    pub fn pairs(&self) -> usize
+    /// The number of pairs, 0 to 128. Never refused. Looks at all 256 records of the tables, and
+    /// changes nothing.
+    pub fn pair_count(&self) -> usize
         ensures { Steps B.Links.graph B.Links.made B.Book.ledger B.Book.fixed R.Ranking.before
             self.now ask_pairs (Ok result) self.now }
     {
-        self.tables.matched() / 2
+        self.tables.matched_count() / 2
     }
 }

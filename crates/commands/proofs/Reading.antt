@@ -3,7 +3,7 @@ use Rattle.std.proofs.Common.{◌≡◌, ℕ, ◌<◌, ◌≤◌, List, ◌++◌
 use Rattle.std.proofs.lemmas.Nat.{div-add-mod'}
 use Rattle.std.proofs.lemmas.List.{drop_at, length-append}
 use Rattle.std.proofs.lemmas.Bool.Decides.{nat_tests}
-use Rattle.links.specs.Outputs.{Writes}
+use Rattle.outputs.specs.Outputs.{Writes}
 use Rattle.links.specs.declared.refusal.Refused.{Refused}
 use Rattle.commands.specs.Commands.{bytes, decoding, decoded, reading, read_at, followed, ReadsBack}
 use Rattle.commands.specs.declared.Command.{Command}

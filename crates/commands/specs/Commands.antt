@@ -1,7 +1,7 @@
 -- The commands of a stream: their bytes, their lines, and what is read from bytes.
-use Rattle.std.specs.Prelude.{◌≡◌, ℕ, ◌+◌, ◌*◌, ◌/◌, ◌%◌, ◌<◌, ◌≤◌, cond, ◌||◌, List, [], ◌∷◌, ◌++◌}
+use Rattle.std.specs.Prelude.{◌≡◌, ℕ, ◌+◌, ◌*◌, ◌/◌, ◌%◌, ◌<◌, ◌≤◌, ◌||◌, List, [], ◌∷◌, ◌++◌}
 use Rattle.std.specs.Prelude.{length, drop, Some, None, Ok, Err, Option, Result, ◌==◌, nat_le}
-use Rattle.std.specs.Prelude.{nat_lt, slice_index, codes, decimal}
+use Rattle.std.specs.Prelude.{nat_lt, slice_index, codes, decimal, if◌then◌else◌}
 use Rattle.std.specs.List.{between}
 use Rattle.links.specs.Books.{by}
 use Rattle.links.specs.Refusals.{Reason, Answers}
@@ -10,6 +10,7 @@ use Rattle.links.specs.declared.refusal.Refused.{Refused}
 use Rattle.commands.specs.declared.Command.{Command}
 use Rattle.commands.specs.declared.Command.TheVariants.{Link, Unlink, Withdraw, Depart, Partner}
 use Rattle.commands.specs.declared.Decoded.{Decoded}
+use Rattle.commands.specs.declared.TheConstants.{LONGEST_STREAM}
 
 -- a load in two bytes, the high one first
 abbrev pub two_bytes : ℕ → List ℕ
@@ -41,27 +42,28 @@ load_at rest k = slice_index rest k * 256 + slice_index rest (k + 1)
 -- the command at the start of these bytes, where there is no reason to refuse
 abbrev pub decoded : List ℕ → Command
 decoded rest =
-    cond (code rest == 1) (Link (load_at rest 1) (load_at rest 3))
-    (cond (code rest == 2) (Unlink (load_at rest 1) (load_at rest 3))
-    (cond (code rest == 3) (Withdraw (load_at rest 1))
-    (cond (code rest == 4) (Depart (load_at rest 1))
-    (Partner (load_at rest 1)))))
+    if code rest == 1 then Link (load_at rest 1) (load_at rest 3)
+    else (if code rest == 2 then Unlink (load_at rest 1) (load_at rest 3)
+    else (if code rest == 3 then Withdraw (load_at rest 1)
+    else (if code rest == 4 then Depart (load_at rest 1)
+    else Partner (load_at rest 1))))
 
 -- 12: no command begins with this byte; 13: the bytes end inside the command
 abbrev pub decoding : List ℕ → Option Reason
 decoding rest =
-    cond (code rest == 0 || nat_lt 5 (code rest)) (by Stream 12)
-    (cond (nat_lt (length rest) (length (bytes (decoded rest)))) (by Stream 13) None)
+    if code rest == 0 || nat_lt 5 (code rest) then by Stream 12
+    else (if nat_lt (length rest) (length (bytes (decoded rest))) then by Stream 13 else None)
 
 -- 3: the stream is too long
 abbrev pub unless_short : List ℕ → Option Reason → Option Reason
-unless_short stream otherwise = cond (nat_lt 65536 (length stream)) (by Stream 3) otherwise
+unless_short stream otherwise =
+    if nat_lt LONGEST_STREAM (length stream) then by Stream 3 else otherwise
 
 -- the first reason to refuse to read at a place of a stream
 abbrev pub reading : List ℕ → ℕ → Option Reason
 reading stream place =
     unless_short stream
-    (cond (nat_le (length stream) place) None (decoding (drop place stream)))
+    (if nat_le (length stream) place then None else decoding (drop place stream))
 
 -- a command read at a place, with the place after it
 abbrev pub followed : ℕ → Command → Decoded
@@ -70,7 +72,8 @@ followed place command = record { command = command; next = place + length (byte
 -- what is read at a place: no command at or past the end
 abbrev pub read_at : List ℕ → ℕ → Option Decoded
 read_at stream place =
-    cond (nat_le (length stream) place) None (Some (followed place (decoded (drop place stream))))
+    if nat_le (length stream) place then None
+    else Some (followed place (decoded (drop place stream)))
 
 -- how a reader answers
 abbrev pub Reads : List ℕ → ℕ → Result (Option Decoded) Refused → Type 0
@@ -90,7 +93,7 @@ Spanned stream place (Err e) = Unit {0}
 -- what was written reads back as the command with the place after it, whatever stands before it
 abbrev pub ReadsBack : Command → List ℕ → Result ℕ Refused → Type 0
 ReadsBack command out (Ok n) =
-    (before : List ℕ) → length (before ++ out) ≤ 65536
+    (before : List ℕ) → length (before ++ out) ≤ LONGEST_STREAM
     → Reads (before ++ out) (length before)
     (Ok (Some (record { command = command; next = length before + n })))
 ReadsBack command out (Err e) = Unit {0}

@@ -3,31 +3,40 @@
 #![tactic(auto)]
 
 ghost use Rattle.std.specs.Prelude.{◌≡◌, ◌+◌, ◌*◌, ◌≤◌, length, take, None, Some};
-ghost use Rattle.links.specs.Outputs.{Writes};
+ghost use Rattle.outputs.specs.Outputs.{Writes};
 ghost use Rattle.links.specs.Refusals.{Answers};
 ghost use Rattle.commands.specs.Commands.{bytes, line_of, decoding, decoded, unless_short, Reads};
 ghost use Rattle.commands.specs.Commands.{Spanned, ReadsBack};
 
-use links::{Layer, Refusal, Refused, write_start};
+use links::{Layer, Refusal, Refused};
+use outputs::write_start;
 use std::fmt;
 
-/// A stream has at most this many bytes.
+/// A stream has at most this many bytes, so that the place of each command fits in 16 bits.
 pub const LONGEST_STREAM: usize = 65_536;
 
-/// A command of the stream.
+/// A command of the stream. Its loads may be any numbers of 16 bits; whether they are loads of a
+/// board is for the board to say.
 #[derive(Clone, Copy, PartialEq, Eq, Debug)]
 pub enum Command {
+    /// 1: link two loads.
     Link(u16, u16),
+    /// 2: unlink two loads.
     Unlink(u16, u16),
+    /// 3: withdraw a load.
     Withdraw(u16),
+    /// 4: a load departs with its partner.
     Depart(u16),
+    /// 5: ask for the partner of a load.
     Partner(u16),
 }
 
 /// A command that was read, and the place after it.
 #[derive(Clone, Copy, PartialEq, Eq, Debug)]
 pub struct Decoded {
+    /// What the bytes say.
     pub command: Command,
+    /// The place of the byte after them, 3 or 5 bytes on.
     pub next: usize,
 }
 
@@ -59,7 +68,11 @@ impl Command {
         [code, high_a, low_a, high_b, low_b]
     }
 
-    /// Writes the command at the start of an output, and answers how many bytes it has.
+    /// Writes the command at the start of an output, and answers how many bytes it has: 5 where it
+    /// has two loads, 3 where it has one. What is written reads back as the command.
+    ///
+    /// Refused with 14 (stream) where the output is shorter than that, and nothing is written then.
+    /// What lies past the command stays as it was.
     #[tactic(auto, using(crate::proofs::Reading::reads_back))]
     pub fn write(self, out: &mut [u8]) -> Result<usize, Refused>
         ensures value { Writes (bytes self) out.old result out.new }
@@ -84,6 +97,7 @@ impl fmt::Display for Command {
     }
 }
 
+// The load in two bytes.
 fn load(high: u8, low: u8) -> u16
     ensures { result ≡ high * 256 + low }
 {
@@ -106,9 +120,11 @@ fn decode(rest: &[u8]) -> Result<Command, Refused>
     }
 }
 
-/// Whether a stream is short enough to be read.
+/// Whether a stream is short enough to be read: refused with 3 (stream) where it has more than
+/// 65,536 bytes. Looks at its length alone.
 pub fn check_length(stream: &[u8]) -> Result<(), Refused>
-    ensures { Answers (unless_short stream.now None) result (λ _. Unit {0}) }
+    ensures checks { Answers (unless_short stream.now None) result (λ _. Unit {0}) }
+    ensures longest { LONGEST_STREAM ≡ 65536 }
 {
     if stream.len() > LONGEST_STREAM {
         return Err(Refusal::WrongLength.by(Layer::Stream));
@@ -116,7 +132,11 @@ pub fn check_length(stream: &[u8]) -> Result<(), Refused>
     Ok(())
 }
 
-/// The command at a place of a stream; none at or past its end.
+/// The command at a place of a stream, with the place after it; none at or past its end.
+///
+/// The first of these that holds refuses the call: the stream has more than 65,536 bytes
+/// (3, stream), the byte at the place begins no command (12, stream), the stream ends inside the
+/// command (13, stream). Looks at no more than five bytes. `place` may be any number.
 pub fn read(stream: &[u8], place: usize) -> Result<Option<Decoded>, Refused>
     ensures value { Reads stream.now place result }
     ensures spanned { Spanned stream.now place result }

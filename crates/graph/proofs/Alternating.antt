@@ -1,4 +1,4 @@
--- Walks whose steps go over the pairs of two matchings in turn.
+-- GivesNext whose steps go over the pairs of two matchings in turn.
 use Rattle.std.proofs.Common.{◌≡◌, ℕ, zero, suc, ◌+◌, ◌-◌, ◌*◌, ◌/◌, ◌%◌, ◌<◌, ◌≤◌, List, ◌∷◌, length, Some, true, refl, add-one, inl, inr, arith}
 use Rattle.std.proofs.lemmas.Bool.{cases_eq}
 use Rattle.graph.specs.Graph.{Graph, Simple}

@@ -10,3 +10,4 @@ pub mod Approximation
 pub mod TwoThirds
 pub mod Changes
 pub mod Ends
+pub mod Lowest

@@ -1,4 +1,6 @@
--- Matchings, and their augmenting paths of any number of links.
+-- Matchings, and their augmenting paths of any number of links. What the shortest of these say
+-- about the size of a matching: Hopcroft and Karp, "An n^{5/2} algorithm for maximum matchings in
+-- bipartite graphs", SIAM J. Comput. 2, 1973.
 use Rattle.std.specs.Prelude.{◌≡◌, ℕ, ◌+◌, ◌%◌, ◌<◌, ◌≤◌, true, List, length, Some, None, Option}
 use Rattle.std.specs.Prelude.{◌≢◌, slice_index}
 use Rattle.graph.specs.Graph.{Graph}

@@ -1,5 +1,6 @@
 -- The pairs of a matching.
-use Rattle.std.specs.Prelude.{ℕ, ◌/◌, Bool, false, not, is_some, Some, None, Option, nat_lt}
+use Rattle.std.specs.Prelude.{ℕ, ◌/◌, Bool, false, not, is_some, Option, nat_lt}
+use Rattle.std.specs.Option.{option_map_or}
 use Rattle.graph.specs.Graph.{count}
 use Rattle.graph.specs.Matching.{Partners}
 
@@ -13,9 +14,9 @@ is_free p a = not (has_partner p a)
 abbrev pub pairs : ℕ → Partners → ℕ
 pairs n p = count n (has_partner p) / 2
 
+-- there is a partner, with a higher number than a
 abbrev pub below_partner : ℕ → Option ℕ → Bool
-below_partner a None = false
-below_partner a (Some b) = nat_lt a b
+below_partner a partner = option_map_or (nat_lt a) partner false
 
 -- a is the lower load of a pair
 abbrev pub is_lower : Partners → ℕ → Bool

@@ -1,12 +1,17 @@
-//! Graphs, matchings and augmenting paths: the definitions that the crates above cite. The
-//! functions here do nothing: the contract of each is a theorem, which the check therefore asks to
-//! be proved.
+//! Graphs, matchings and augmenting paths: the definitions that the crates above use. The functions
+//! do nothing: the contract of each is a theorem, so the check asks for a proof of it.
+//!
+//! What shortest augmenting paths say about the size of a matching: Hopcroft and Karp, "An n^{5/2}
+//! algorithm for maximum matchings in bipartite graphs", SIAM J. Comput. 2, 1973.
 #![tactic(auto)]
 
 ghost use Rattle.graph.specs.Approximation.{Handshake, PairsAtLower, ShortPathsOfMatchings};
 ghost use Rattle.graph.specs.Approximation.{ApproximationRatio, TwoThirds};
 ghost use Rattle.graph.specs.Changes.{LinksCounted};
 ghost use Rattle.graph.specs.Theorems.{PathsOfOne, PathsOfThree, PathsAreOdd};
+
+/// The most loads that a graph has.
+pub const MOST_LOADS: usize = 256;
 
 /// The augmenting paths of one link are the links between two free loads.
 pub fn paths_of_one()

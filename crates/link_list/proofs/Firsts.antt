@@ -1,75 +1,57 @@
--- The first number below a bound that passes a test.
+-- The lowest number below a bound that passes a test, and the next of several.
 use Rattle.std.proofs.Common.{◌≡◌, ℕ, zero, suc, ◌<◌, min, Bool, true, false, cond, ◌&&◌, ◌||◌, eqb, leb, List, [], ◌∷◌, length, get_or, fold, IfSome, MatchOption, Some, None, Option, sym, refl, ap, ◌∙◌, subst, ⊎_elim, arith}
 use Rattle.std.proofs.lemmas.Bool.{cases_eq, cases_lt, or_from, or_left, or_right}
 use Rattle.std.proofs.lemmas.Bool.Decides.{nat_tests}
 use Rattle.std.specs.List.{list_any, filter_map, cons_option, reduce, AllWithin, HoldsAt}
-use Rattle.graph.specs.Graph.{Next}
+use Rattle.std.specs.Bool.{then_some}
+use Rattle.std.specs.Option.{option_or}
+use Rattle.graph.specs.Graph.{Next, lowest_passing}
+use Rattle.graph.proofs.Lowest.{passing_none}
 use Rattle.link_list.specs.declared.Entry.{Entry}
-use Rattle.link_list.specs.Entries.{joins, next_joined, lower_of, or_else, first}
+use Rattle.link_list.specs.Entries.{joins, next_joined, lower_of}
 
 -- ---- the first that passes
 
-pub first_none : (n : ℕ) (test : ℕ → Bool) → ((k : ℕ) → k < n → test k ≡ false) → first n test ≡ None
-first_none zero test off = refl
-first_none (suc n) test off = rw (first_none n test (λ k l. off k (omega arith)), off n (omega arith)) refl
-
-pub first_some : (n : ℕ) (test : ℕ → Bool) (i : ℕ) → i < n → test i ≡ true → ((k : ℕ) → k < i → test k ≡ false) → first n test ≡ Some i
+pub first_some : (n : ℕ) (test : ℕ → Bool) (i : ℕ) → i < n → test i ≡ true → ((k : ℕ) → k < i → test k ≡ false) → lowest_passing n test ≡ Some i
 first_some zero test i l on off = absurd (omega arith)
 first_some (suc n) test i l on off =
     ⊎_elim
     (λ e.
     let here : test n ≡ true = ap test (sym e) ∙ on in
-    let none : first n test ≡ None = first_none n test (λ k m. off k (omega arith)) in
+    let none : lowest_passing n test ≡ None = passing_none n test (λ k. k) (λ k m. off k (omega arith)) in
     rw (none, here) (ap Some (sym e)))
-    (λ ne. let found : first n test ≡ Some i = first_some n test i (omega (arith, ne)) on off in rw found refl)
+    (λ ne. let found : lowest_passing n test ≡ Some i = first_some n test i (omega (arith, ne)) on off in rw found refl)
     (cases_eq i n)
 
 pub never : {A : Type 0} (i : ℕ) → Some i ≡ None → A
 never i e = let z : ◌≡◌ {A = ℕ} 0 1 = cc in absurd (omega arith)
 
--- where there is no first, none passes
-pub none_first : (n : ℕ) (test : ℕ → Bool) → first n test ≡ None → (k : ℕ) → k < n → test k ≡ false
-none_first zero test none k l = absurd (omega arith)
-none_first (suc n) test none k l =
-    ⊎_elim
-    (λ e. ap test e ∙ no_hit (test n) (both_none (first n test) _ none).1)
-    (λ ne. none_first n test (both_none (first n test) _ none).0 k (omega (arith, ne)))
-    (cases_eq k n)
-  where
-    both_none : (x y : Option ℕ) → or_else x y ≡ None → (x ≡ None) × (y ≡ None)
-    both_none None y e = (refl, e)
-    both_none (Some i) y e = never i e
-
-    no_hit : (b : Bool) → cond b (Some n) None ≡ None → b ≡ false
-    no_hit true e = never n e
-    no_hit false e = refl
-
 -- ---- the lower of two
 
 abbrev hit : ℕ → Bool → Option ℕ
-hit n b = cond b (Some n) None
+hit n b = then_some b n
 
 Below : Option ℕ → ℕ → Type 0
 Below o n = IfSome o (λ i. i < n)
 
-first_below : (n : ℕ) (test : ℕ → Bool) → Below (first n test) n
+first_below : (n : ℕ) (test : ℕ → Bool) → Below (lowest_passing n test) n
 unfolding Below
 first_below zero test = tt
-first_below (suc n) test = one_more (first n test) (test n) (first_below n test)
+first_below (suc n) test = one_more (lowest_passing n test) (test n) (first_below n test)
   where
-    one_more : (o : Option ℕ) (b : Bool) → Below o n → Below (or_else o (hit n b)) (suc n)
+    one_more : (o : Option ℕ) (b : Bool) → Below o n → Below (option_or o (hit n b)) (suc n)
     one_more None true l = omega arith
     one_more None false l = tt
     one_more (Some i) b l = omega arith
 
-pub lower_first : (n : ℕ) (p q : ℕ → Bool) → lower_of (first n p) (first n q) ≡ first n (λ k. p k || q k)
+pub lower_first : (n : ℕ) (p q : ℕ → Bool) → lower_of (lowest_passing n p) (lowest_passing n q) ≡ lowest_passing n (λ k. p k || q k)
 unfolding Below
 lower_first zero p q = refl
 lower_first (suc n) p q =
-    one_more (first n p) (first n q) (p n) (q n) (first_below n p) (first_below n q)
-    ∙ ap (λ (o : Option ℕ). or_else o (hit n (p n || q n))) (lower_first n p q)
+    one_more (lowest_passing n p) (lowest_passing n q) (p n) (q n) (first_below n p) (first_below n q)
+    ∙ ap (λ (o : Option ℕ). option_or o (hit n (p n || q n))) (lower_first n p q)
   where
-    one_more : (x y : Option ℕ) (a b : Bool) → Below x n → Below y n → lower_of (or_else x (hit n a)) (or_else y (hit n b)) ≡ or_else (lower_of x y) (hit n (a || b))
+    one_more : (x y : Option ℕ) (a b : Bool) → Below x n → Below y n → lower_of (option_or x (hit n a)) (option_or y (hit n b)) ≡ option_or (lower_of x y) (hit n (a || b))
     one_more (Some i) (Some j) a b l m = refl
     one_more (Some i) None a true l m = ap Some (omega arith)
     one_more (Some i) None a false l m = refl
@@ -139,6 +121,6 @@ module _ (x from : ℕ) where
 
 -- ---- the first in a list
 
-pub first_position : {X : Type 0} (d : X) (test : X → Bool) (xs : List X) (r : Option ℕ) → MatchOption r (AllWithin (λ x. test x ≡ false) xs 0 (length xs)) (λ i. (i < length xs) × HoldsAt (λ x. test x ≡ true) xs i × AllWithin (λ x. test x ≡ false) xs 0 i) → r ≡ first (length xs) (λ k. test (get_or xs k d))
-first_position d test xs None off = sym (first_none (length xs) (λ k. test (get_or xs k d)) (λ k l. off k d (omega arith) l))
+pub first_position : {X : Type 0} (d : X) (test : X → Bool) (xs : List X) (r : Option ℕ) → MatchOption r (AllWithin (λ x. test x ≡ false) xs 0 (length xs)) (λ i. (i < length xs) × HoldsAt (λ x. test x ≡ true) xs i × AllWithin (λ x. test x ≡ false) xs 0 i) → r ≡ lowest_passing (length xs) (λ k. test (get_or xs k d))
+first_position d test xs None off = sym (passing_none (length xs) (λ k. test (get_or xs k d)) (λ k. k) (λ k l. off k d (omega arith) l))
 first_position d test xs (Some i) at = sym (first_some (length xs) (λ k. test (get_or xs k d)) i at.0 (at.1 d) (λ k l. at.2 k d (omega arith) l))

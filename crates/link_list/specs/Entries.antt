@@ -1,5 +1,5 @@
 -- Entries, and the first one that breaks a rule.
-use Rattle.std.specs.Prelude.{ℕ, zero, suc, ◌-◌, min, Bool, cond, not, ◌&&◌, ◌||◌, List, Some, None}
+use Rattle.std.specs.Prelude.{ℕ, ◌-◌, min, Bool, not, ◌&&◌, ◌||◌, if◌then◌else◌, List, Some, None}
 use Rattle.std.specs.Prelude.{Option, ◌==◌, nat_le, nat_lt, slice_index_or}
 use Rattle.graph.specs.Graph.{is_pair}
 use Rattle.link_list.specs.declared.Entry.{Entry}
@@ -19,8 +19,8 @@ joins e x y = is_pair e.a e.b x y
 -- the load at or above `from` that the entry links to x
 abbrev pub next_joined : Entry → ℕ → ℕ → Option ℕ
 next_joined e x from =
-    cond (e.a == x && nat_le from e.b) (Some e.b)
-    (cond (e.b == x && nat_le from e.a) (Some e.a) None)
+    if e.a == x && nat_le from e.b then Some e.b
+    else (if e.b == x && nat_le from e.a then Some e.a else None)
 
 -- the entry is a link of x
 abbrev pub touches : Entry → ℕ → Bool
@@ -41,12 +41,3 @@ abbrev pub lower_of : Option ℕ → Option ℕ → Option ℕ
 lower_of None o = o
 lower_of (Some i) None = Some i
 lower_of (Some i) (Some j) = Some (min i j)
-
-abbrev pub or_else : Option ℕ → Option ℕ → Option ℕ
-or_else None o = o
-or_else (Some i) o = Some i
-
--- the smallest number below n that passes the test, if there is one
-abbrev pub first : ℕ → (ℕ → Bool) → Option ℕ
-first zero test = None
-first (suc n) test = or_else (first n test) (cond (test n) (Some n) None)

@@ -2,13 +2,14 @@
 #![tactic(auto)]
 
 ghost use Rattle.std.specs.Prelude.{◌≡◌, length};
+ghost use Rattle.graph.specs.Graph.{lowest_passing};
 ghost use Rattle.links.specs.Refusals.{Answers};
-ghost use Rattle.link_list.specs.Entries.{in_bounds, joins, next_joined, touches, lower_of, first};
+ghost use Rattle.link_list.specs.Entries.{in_bounds, joins, next_joined, touches, lower_of};
 ghost use Rattle.link_list.specs.Entries.{out_of_bounds};
 ghost use Rattle.link_list.specs.Lists.{list_graph, ListMade, checking, Sound, Listing};
 
 use links::{Layer, Links, Refusal, Refused, check_size};
-use rise::first_unordered;
+use strict_order::first_unordered;
 
 /// The link of the loads a and b, where a is the lower one. Entries are ordered by a, and then by
 /// b.
@@ -65,13 +66,13 @@ fn lower(x: Option<usize>, y: Option<usize>) -> Option<usize>
 }
 
 fn first_out_of_bounds(size: usize, entries: &[Entry]) -> Option<usize>
-    ensures { result ≡ first (length entries.now) (out_of_bounds size entries.now) }
+    ensures { result ≡ lowest_passing (length entries.now) (out_of_bounds size entries.now) }
 {
     entries.iter().position(|link| !link.is_in_bounds(size))
 }
 
 /// The links of the loads below a size, as entries that rise strictly.
-#[derive(Clone, Copy)]
+#[derive(Clone, Copy, Debug)]
 pub struct LinkList<'a> {
     size: usize,
     entries: &'a [Entry],

@@ -1,5 +1,5 @@
 pub mod Reasons
-pub mod Walks
+pub mod InOrder
 pub mod FindMap
 pub mod Spares
 pub mod Memory

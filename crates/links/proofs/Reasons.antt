@@ -2,7 +2,7 @@
 use Rattle.std.proofs.Common.{◌≡◌, ℕ, ◌<◌, Bool, true, false, cond, ◌||◌, eqb, leb, IsErrAnd, Some, None, Ok, Err, Option, Result, sym, refl, ap, ◌∙◌, arith}
 use Rattle.std.proofs.lemmas.Bool.{cond-false, or_from, or_parts, lt-leb, leb-false, ne_eqb, eqb-false}
 use Rattle.graph.specs.Graph.{Graph}
-use Rattle.links.specs.Books.{Ledger, unless_two_of, unless_open, unless_spares, unless_room, adding, removing}
+use Rattle.links.specs.Books.{Ledger, unless_two_of, unless_open, unless_spares, unless_room, adding, removing, Adds}
 use Rattle.links.specs.Refusals.{Reason, told, Answers, Kept}
 use Rattle.links.specs.declared.refusal.Layer.{Layer}
 use Rattle.links.specs.declared.refusal.Layer.TheVariants.{Book}
@@ -110,3 +110,15 @@ pub removing_none : (g : Graph) (a b : ℕ) → removing g a b ≡ None → Remo
 removing_none g a b e =
     let (two, e₁) = two_none Book g.size a b _ e in
     record { two = two; on = (cond_some (g.linked a b) _ _ e₁).0 }
+
+-- ---- a call that adds, refused by a `?` before anything was changed
+
+module _
+    {S : Type 0} (graph : S → Graph) (made : S → Type 0) (ledger : S → Ledger)
+    (s : S) (a b : ℕ) (e : Refused) (r : Result Unit Refused) (by : IsErrAnd r (λ x. x ≡ e)) where
+  pub add_refused : (made s → adding (graph s) (ledger s) a b ≡ Some (told e)) → Adds graph made ledger s a b r s
+  add_refused why = record { kept = kept_same r s; answers = λ m. refused_by _ e r _ by (why m) }
+
+  -- since the pair is not open
+  pub add_not_open : (made s → unless_open (graph s) ((ledger s).barred a b) a b None ≡ Some (told e)) → Adds graph made ledger s a b r s
+  add_not_open why = add_refused (λ m. open_refused (graph s) ((ledger s).barred a b) a b _ _ (why m))

@@ -1,7 +1,9 @@
 -- What a book allows besides its links, and how it answers a change.
-use Rattle.std.specs.Prelude.{◌≡◌, ℕ, ◌+◌, ◌-◌, ◌<◌, ◌≤◌, Bool, true, cond, ◌||◌, [], Some, None}
-use Rattle.std.specs.Prelude.{Option, Result, ◌==◌, nat_le, nat_lt}
+use Rattle.std.specs.Prelude.{◌≡◌, ℕ, ◌+◌, ◌-◌, ◌<◌, ◌≤◌, Bool, true, false, ◌||◌, [], Some, None}
+use Rattle.std.specs.Prelude.{if◌then◌else◌, Option, Result, ◌==◌, nat_le, nat_lt}
 use Rattle.graph.specs.Graph.{Graph, link_count, added, removed}
+use Rattle.graph.specs.declared.TheConstants.{MOST_LOADS}
+use Rattle.links.specs.declared.TheConstants.{MOST_LINKS}
 use Rattle.links.specs.declared.refusal.Layer.{Layer}
 use Rattle.links.specs.declared.refusal.Layer.TheVariants.{Book}
 use Rattle.links.specs.declared.refusal.Refused.{Refused}
@@ -17,11 +19,21 @@ pub record Ledger : Type 0 where
 
 -- what holds of every book at all times
 pub record Bounded (g : Graph) (l : Ledger) : Type 0 where
-  pub limit_bound : l.limit ≤ 32640
+  pub limit_bound : l.limit ≤ MOST_LINKS
   pub within : link_count g ≤ l.limit
   pub barred_symmetric : (a b : ℕ) → l.barred a b ≡ l.barred b a
   pub barred_below : (a b : ℕ) → l.barred a b ≡ true → a < g.size
   pub spare_below : (a : ℕ) → g.size ≤ a → l.spare a ≡ 0
+
+-- of n loads without links, each of which may take so many; no pair is barred
+abbrev pub fresh_ledger : ℕ → ℕ → ℕ → Ledger
+fresh_ledger n spare limit =
+    record {
+      limit = limit;
+      barred = λ _ _. false;
+      spare = λ a. if nat_lt a n then spare else 0;
+      room = limit;
+    }
 
 -- after a link of a and b was added, and after one was removed
 abbrev pub lowered : Ledger → ℕ → ℕ → Ledger
@@ -29,7 +41,7 @@ lowered l a b =
     record {
       limit = l.limit;
       barred = l.barred;
-      spare = λ x. l.spare x - cond (a == x || b == x) 1 0;
+      spare = λ x. l.spare x - (if a == x || b == x then 1 else 0);
       room = l.room - 1;
     }
 
@@ -38,7 +50,7 @@ raised l a b =
     record {
       limit = l.limit;
       barred = l.barred;
-      spare = λ x. l.spare x + cond (a == x || b == x) 1 0;
+      spare = λ x. l.spare x + (if a == x || b == x then 1 else 0);
       room = l.room + 1;
     }
 
@@ -50,34 +62,37 @@ by_book number = by Book number
 
 -- not one of the numbers from 1 to `most`
 abbrev pub unless_within : ℕ → Option Reason → ℕ → Option Reason → Option Reason
-unless_within most refused n otherwise = cond (n == 0 || nat_lt most n) refused otherwise
+unless_within most refused n otherwise =
+    if n == 0 || nat_lt most n then refused else otherwise
 
 -- 1: not 1 to 256 loads
 abbrev pub unless_size : ℕ → Option Reason → Option Reason
-unless_size = unless_within 256 (by_book 1)
+unless_size = unless_within MOST_LOADS (by_book 1)
 
 -- 2: not a limit of 1 to 32640 links
 abbrev pub unless_limit : ℕ → Option Reason → Option Reason
-unless_limit = unless_within 32640 (by_book 2)
+unless_limit = unless_within MOST_LINKS (by_book 2)
 
 -- 4: not two loads; 5: the same load twice
 abbrev pub unless_two_of : Layer → ℕ → ℕ → ℕ → Option Reason → Option Reason
 unless_two_of layer size a b otherwise =
-    cond (nat_le size a || nat_le size b) (by layer 4) (cond (a == b) (by layer 5) otherwise)
+    if nat_le size a || nat_le size b then by layer 4
+    else (if a == b then by layer 5 else otherwise)
 
 -- the pair is not open. 4, 5: not two loads; 8: barred; 6: linked already
 abbrev pub unless_open : Graph → Bool → ℕ → ℕ → Option Reason → Option Reason
 unless_open g barred a b otherwise =
     unless_two_of Book g.size a b
-    (cond barred (by_book 8) (cond (g.linked a b) (by_book 6) otherwise))
+    (if barred then by_book 8 else (if g.linked a b then by_book 6 else otherwise))
 
 -- 9: either load has no spare left
 abbrev pub unless_spares : ℕ → ℕ → Option Reason → Option Reason
-unless_spares spare_a spare_b otherwise = cond (spare_a == 0 || spare_b == 0) (by_book 9) otherwise
+unless_spares spare_a spare_b otherwise =
+    if spare_a == 0 || spare_b == 0 then by_book 9 else otherwise
 
 -- 10: the book has no room left
 abbrev pub unless_room : ℕ → Option Reason → Option Reason
-unless_room room otherwise = cond (room == 0) (by_book 10) otherwise
+unless_room room otherwise = if room == 0 then by_book 10 else otherwise
 
 -- the first reason to refuse to add a link of a and b: the pair has to be open, and something left
 -- for its link
@@ -88,7 +103,7 @@ adding g l a b =
 
 -- the first reason to refuse to remove the link of a and b
 abbrev pub removing : Graph → ℕ → ℕ → Option Reason
-removing g a b = unless_two_of Book g.size a b (cond (g.linked a b) None (by_book 7))
+removing g a b = unless_two_of Book g.size a b (if g.linked a b then None else by_book 7)
 
 -- the value t stands for this graph and this ledger, and came from its making
 pub record Stands {S : Type 0} (graph : S → Graph) (made : S → Type 0) (ledger : S → Ledger)

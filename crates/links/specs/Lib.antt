@@ -1,6 +1,5 @@
 pub mod Refusals
 pub mod Books
 pub mod Memory
-pub mod Outputs
-pub mod Walks
+pub mod InOrder
 pub mod Words

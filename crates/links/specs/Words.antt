@@ -13,8 +13,8 @@ layer_name Book = codes "book"
 -- what each refusal means, in the order of the numbers, from 1
 abbrev pub texts : List (List ℕ)
 texts =
-    codes "there are 1 to 256 loads"
-    ∷ codes "the limit is out of its range"
+    codes "the number of loads is not 1 to 256"
+    ∷ codes "the limit is out of range"
     ∷ codes "the length is wrong"
     ∷ codes "there is no such load"
     ∷ codes "both are the same load"
@@ -24,10 +24,10 @@ texts =
     ∷ codes "a load has no spare left"
     ∷ codes "the book has no room left"
     ∷ codes "the load has no partner"
-    ∷ codes "no command begins so"
+    ∷ codes "unknown command byte"
     ∷ codes "the stream ends inside a command"
     ∷ codes "the output is too short"
-    ∷ codes "an entry breaks the order or its bounds"
+    ∷ codes "an entry is out of order or out of bounds"
     ∷ []
 
 abbrev pub reason_text : ℕ → List ℕ

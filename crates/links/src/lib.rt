@@ -1,5 +1,5 @@
 //! What can be asked of links, what a book of links can change, the checks that every book makes,
-//! the tally of a book, walks over linked loads, the refusals, and the writing of bytes.
+//! the tally of a book, the linked loads in order, and the refusals.
 #![tactic(auto)]
 
 ghost use Rattle.std.specs.Prelude.{◌≡◌, None};
@@ -9,18 +9,20 @@ ghost use Rattle.links.specs.Books.{unless_limit, unless_two_of, unless_open, un
 ghost use Rattle.links.specs.Books.{unless_room, removing};
 ghost use Rattle.links.specs.Refusals.{Answers, told_by};
 
-mod output;
+pub mod members;
 mod refusal;
 mod tally;
-pub mod walk;
 
-pub use output::write_start;
+pub use graph::MOST_LOADS;
 pub use refusal::{Layer, Refusal, Refused};
 pub use tally::Tally;
 
+/// The highest limit that a book can have: 32,640, a link for each two of 256 loads.
+pub const MOST_LINKS: usize = MOST_LOADS * (MOST_LOADS - 1) / 2;
+
 /// What a book has left for one link: how many links each of its loads may still take, and how
 /// many the book may.
-#[derive(Clone, Copy)]
+#[derive(Clone, Copy, PartialEq, Eq, Debug)]
 pub struct Allowance {
     /// The spare of the one load.
     pub spare_a: usize,
@@ -124,14 +126,14 @@ pub fn check_within(n: usize, most: usize, refusal: Refusal) -> Result<(), Refus
 pub fn check_size(size: usize) -> Result<(), Refused>
     ensures { Answers (unless_size size None) result (λ _. Unit {0}) }
 {
-    check_within(size, 256, Refusal::SizeOutOfRange)
+    check_within(size, MOST_LOADS, Refusal::SizeOutOfRange)
 }
 
 /// Whether a book can have this limit: it refuses with 2 unless that is 1 to 32,640.
 pub fn check_limit(limit: usize) -> Result<(), Refused>
     ensures { Answers (unless_limit limit None) result (λ _. Unit {0}) }
 {
-    check_within(limit, 32640, Refusal::LimitOutOfRange)
+    check_within(limit, MOST_LINKS, Refusal::LimitOutOfRange)
 }
 
 /// Whether a and b are two of `size` loads: the layer refuses with 4 where one is not below the

@@ -13,7 +13,7 @@ pub enum Refusal {
     SizeOutOfRange,
     /// 2: the link limit or the row limit is outside its range
     LimitOutOfRange,
-    /// 3: memory is too short, a stream too long, or a table of partners not of the right length
+    /// 3: memory is too short, a stream is too long, or a table of partners has the wrong length
     WrongLength,
     /// 4: a number is not below the number of loads
     NoSuchLoad,
@@ -29,15 +29,15 @@ pub enum Refusal {
     LoadFull,
     /// 10: the book has no room left
     BookFull,
-    /// 11: a load without a partner cannot depart
+    /// 11: a load that is to depart has no partner
     NoPartner,
-    /// 12: a byte that begins no command
+    /// 12: an unknown command byte
     UnknownCommand,
     /// 13: the stream ends inside a command
     CutShort,
     /// 14: the output is too short
     OutputTooShort,
-    /// 15: the entry of a list with this index breaks its order or its bounds
+    /// 15: the entry of a list with this index is the first that is out of order or out of bounds
     BadEntry(usize),
 }
 
@@ -80,8 +80,8 @@ impl Refusal {
         ensures { result.now ≡ reason_text (meaning self).0 }
     {
         match self {
-            Refusal::SizeOutOfRange => "there are 1 to 256 loads",
-            Refusal::LimitOutOfRange => "the limit is out of its range",
+            Refusal::SizeOutOfRange => "the number of loads is not 1 to 256",
+            Refusal::LimitOutOfRange => "the limit is out of range",
             Refusal::WrongLength => "the length is wrong",
             Refusal::NoSuchLoad => "there is no such load",
             Refusal::SameLoad => "both are the same load",
@@ -91,10 +91,10 @@ impl Refusal {
             Refusal::LoadFull => "a load has no spare left",
             Refusal::BookFull => "the book has no room left",
             Refusal::NoPartner => "the load has no partner",
-            Refusal::UnknownCommand => "no command begins so",
+            Refusal::UnknownCommand => "unknown command byte",
             Refusal::CutShort => "the stream ends inside a command",
             Refusal::OutputTooShort => "the output is too short",
-            Refusal::BadEntry(_) => "an entry breaks the order or its bounds",
+            Refusal::BadEntry(_) => "an entry is out of order or out of bounds",
         }
     }
 }
@@ -119,7 +119,7 @@ pub enum Layer {
 }
 
 impl Layer {
-    /// Its name, in small letters.
+    /// Its name, in lower case.
     pub fn name(self) -> &'static str
         ensures { result.now ≡ layer_name self }
     {

@@ -1,11 +1,10 @@
 -- Strict total orders of the loads.
-use Rattle.std.specs.Prelude.{◌≡◌, ℕ, Bool, true, false, not, ◌&&◌, ◌||◌, ◌==◌, ◌≢◌, nat_lt}
+use Rattle.std.specs.Prelude.{◌≡◌, ℕ, Bool, ◌&&◌, ◌||◌, ◌==◌, nat_lt}
+use Rattle.strict_order.specs.StrictOrder.{StrictTotal}
 
--- two different numbers come one before the other and never both ways, and the order is transitive
-pub record StrictOrder (before : ℕ → ℕ → Bool) : Type 0 where
-  pub irreflexive : (x : ℕ) → before x x ≡ false
-  pub one_first : (x y : ℕ) → (x ≢ y) → before y x ≡ not (before x y)
-  pub transitive : (x y z : ℕ) → before x y ≡ true → before y z ≡ true → before x z ≡ true
+-- of two different numbers, exactly one comes before the other, and the order is transitive
+abbrev pub StrictOrder : (ℕ → ℕ → Bool) → Type 0
+StrictOrder before = StrictTotal ◌≡◌ before
 
 -- the lower number comes first
 abbrev pub lower : ℕ → ℕ → Bool

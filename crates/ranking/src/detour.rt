@@ -35,7 +35,7 @@ fn difference(a: i32, b: i32) -> i64
 
 /// The load with the smaller detour comes first, then the lower number. A load past the end of the
 /// places is at `Place::ORIGIN`.
-#[derive(Clone, Copy)]
+#[derive(Clone, Copy, Debug)]
 pub struct ByDetour<'a> {
     // the place of each load
     places: &'a [Place],

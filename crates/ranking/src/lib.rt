@@ -30,7 +30,7 @@ pub trait Ranking {
 }
 
 /// The lower number comes first.
-#[derive(Clone, Copy)]
+#[derive(Clone, Copy, PartialEq, Eq, Debug)]
 pub struct ByNumber;
 
 impl Ranking for ByNumber {

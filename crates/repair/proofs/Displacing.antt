@@ -9,7 +9,7 @@ use Rattle.graph.proofs.Partners.{none_is}
 use Rattle.rules.specs.Repair.{Ranking, paired, any_below, ends_path, begins_path, light_partner, path_start_of, augmented_from, augment, displaced, displaced_from, light_start_of, displace, improved, improve}
 use Rattle.rules.proofs.First.{first_found}
 use Rattle.tables.specs.declared.Tables.{Tables}
-use Rattle.tables.specs.Views.{partners_of, links_of, Agrees}
+use Rattle.tables.specs.Views.{partners_of, degree_of, Agrees}
 use Rattle.tables.specs.Changes.{Replacing}
 use Rattle.tables.proofs.Firsts.{first_nowhere, none_counted}
 use Rattle.repair.specs.Holds.{Holds, Changes, Augments}
@@ -19,7 +19,7 @@ module _ (before : Ranking) (n : ℕ) (g : Graph) (a : ℕ) {s : Tables} (k : Ag
   abbrev p : Partners
   p = partners_of s
 
-  module _ (many : n < links_of s a) where
+  module _ (many : n < degree_of s a) where
     displace_many : (o : Option ℕ) → light_start_of before n g p a ≡ o → displace before n g a p ≡ displaced_from before n g p a o
     displace_many o e = cond-true (ltb n (degree g a)) _ _ (lt-ltb n (degree g a) (subst (λ (d : ℕ). n < d) (k.tracks.degrees a) many)) ∙ ap (displaced_from before n g p a) e
 
@@ -60,7 +60,7 @@ module _ (before : Ranking) (n : ℕ) (g : Graph) (a : ℕ) {s : Tables} (k : Ag
         not_some (Some b) e = absurd (true≢false e)
 
     -- a load without links stays as it is
-    pub improve_alone : Simple g → links_of s a ≡ 0 → Holds g (improve before n g a p) s
+    pub improve_alone : Simple g → degree_of s a ≡ 0 → Holds g (improve before n g a p) s
     improve_alone simple none =
         let alone = none_counted g.size (g.linked a) (sym (k.tracks.degrees a) ∙ none) in
         let no-start = first_nowhere (before a) g.size (begins_path g p a) (λ x below. and_left (g.linked a x) (any_below g.size (ends_path g p a (p x))) (alone x below)) in

@@ -1,8 +1,7 @@
-pub mod Walks
+pub mod Bests
 pub mod Others
 pub mod Starts
 pub mod Taking
 pub mod Displacing
 pub mod Rounds
-pub mod Book
 mod Heavy

@@ -8,7 +8,7 @@ use Rattle.graph.proofs.Injections.{except, count_except}
 use Rattle.rules.specs.First.{first}
 use Rattle.rules.specs.Repair.{Ranking, any_below, ends_path}
 use Rattle.tables.specs.declared.Tables.{Tables}
-use Rattle.tables.specs.Views.{partners_of, free_count_of, free_linked, Agrees}
+use Rattle.tables.specs.Views.{partners_of, free_degree_of, free_linked, Agrees}
 use Rattle.tables.proofs.Firsts.{first_cut, past_size}
 use Rattle.repair.specs.Paths.{FirstOther, HasOther}
 
@@ -44,7 +44,7 @@ module _ (t : Tables) (y a : ℕ) where
     free_past : (z : ℕ) → g.size ≤ z → free_linked t y z ≡ false
     free_past z h = k.tracks.sets y z ∙ and_left (g.linked y z) _ (past_size g simple y z h)
 
-    counted : free_count_of t y ≡ count g.size (free_linked t y)
+    counted : free_degree_of t y ≡ count g.size (free_linked t y)
     counted = k.tracks.counts y ∙ ap (count g.size) (sym (fun_ext (k.tracks.sets y)))
 
     inside : (z : ℕ) → free_linked t y z ≡ true → z < g.size
@@ -55,16 +55,16 @@ module _ (t : Tables) (y a : ℕ) where
       e ∙ first_cut (before y) others g.size 256 simple.small (λ z h _. and_left (free_linked t y z) _ (free_past g simple k z h))
       ∙ ap (first (before y) g.size) (others_are g simple k)
 
-  pub other_besides : free_linked t y a ≡ true → HasOther y a t (ltb 1 (free_count_of t y))
+  pub other_besides : free_linked t y a ≡ true → HasOther y a t (ltb 1 (free_degree_of t y))
   other_besides on g simple k =
       let less = count_except g.size (free_linked t y) a (inside g simple k a on) on in
-      let same : ltb 1 (free_count_of t y) ≡ ltb 0 (count g.size others) = ap (ltb 1) (counted g simple k) ∙ lower _ _ less in
+      let same : ltb 1 (free_degree_of t y) ≡ ltb 0 (count g.size others) = ap (ltb 1) (counted g simple k) ∙ lower _ _ less in
       same ∙ any_count g.size others ∙ ap (any_below g.size) (others_are g simple k)
     where
       lower : (m n : ℕ) → m + 1 ≡ n → ltb 1 n ≡ ltb 0 m
       lower m n e = grind (arith, nat_tests)
 
-  pub other_any : free_linked t y a ≡ false → HasOther y a t (ltb 0 (free_count_of t y))
+  pub other_any : free_linked t y a ≡ false → HasOther y a t (ltb 0 (free_degree_of t y))
   other_any off g simple k =
       ap (ltb 0) (counted g simple k) ∙ any_count g.size (free_linked t y)
       ∙ ap (any_below g.size) (fun_ext (except_none (free_linked t y) a off) ∙ others_are g simple k)

@@ -1,4 +1,4 @@
 pub mod Paths
 pub mod Holds
-pub mod Book
+pub mod OnLinks
 pub mod Best

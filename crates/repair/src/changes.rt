@@ -5,13 +5,11 @@ ghost use Rattle.graph.specs.Matching.{Free};
 ghost use Rattle.rules.specs.Repair.{light_start_of, displace, improve};
 ghost use Rattle.rules.specs.Threshold.{threshold};
 ghost use Rattle.tables.specs.Views.{partners_of, Agrees};
-ghost use Rattle.repair.specs.Book.{OnBook};
+ghost use Rattle.repair.specs.OnLinks.{OnLinks};
 ghost use Rattle.repair.specs.Holds.{Changes, Augments, LightPartner};
 
 use crate::Repair;
-use crate::best::best_of;
 use links::Links;
-use links::walk::linked_loads;
 use ranking::Ranking;
 use tables::Tables;
 
@@ -30,14 +28,14 @@ fn has_light_partner(tables: &Tables, limit: usize, x: usize) -> bool
 {
     tables
         .partner(x)
-        .is_some_and(|y| !is_heavy(tables.links(y), limit))
+        .is_some_and(|y| !is_heavy(tables.degree(y), limit))
 }
 
 impl<L: Links, R: Ranking> Repair<'_, L, R> {
     // Takes the first augmenting path of three links that begins at a, which is free. Answers
     // whether there is one.
     fn augment(&self, tables: &mut Tables, a: usize) -> bool
-        ensures { OnBook L.Links.made L.Links.graph R.Ranking.before self.now
+        ensures { OnLinks L.Links.made L.Links.graph R.Ranking.before self.now
             (λ before t g. Augments before g a result tables.old tables.new) }
     {
         let Some((_, x, y, z)) = self.find_path(tables, a) else {
@@ -50,22 +48,20 @@ impl<L: Links, R: Ranking> Repair<'_, L, R> {
     // The first in a's ranking of the loads linked to a whose partner has no more links than the
     // threshold.
     fn light_start(&self, tables: &Tables, a: usize) -> Option<usize>
-        ensures { OnBook L.Links.made L.Links.graph R.Ranking.before self.now
+        ensures { OnLinks L.Links.made L.Links.graph R.Ranking.before self.now
             (λ before t g. Agrees g tables.now
             → result ≡ light_start_of before t g (partners_of tables.now) a) }
     {
-        let walk = linked_loads(self.links, a, 256);
-        let is_light = |x| has_light_partner(tables, self.limit, x);
-        best_of(self.ranking, a, walk, is_light)
+        self.first_linked(a, |x| has_light_partner(tables, self.limit, x))
     }
 
     // a, which is free, displaces a light load if a has more links than the threshold.
     fn displace(&self, tables: &mut Tables, a: usize)
-        ensures { OnBook L.Links.made L.Links.graph R.Ranking.before self.now
+        ensures { OnLinks L.Links.made L.Links.graph R.Ranking.before self.now
             (λ before t g. Free (partners_of tables.old) a
             → Changes g (displace before t g a) tables.old tables.new) }
     {
-        if is_heavy(tables.links(a), self.limit)
+        if is_heavy(tables.degree(a), self.limit)
             && let Some(x) = self.light_start(tables, a)
             && let Some(y) = tables.partner(x)
         {
@@ -77,10 +73,10 @@ impl<L: Links, R: Ranking> Repair<'_, L, R> {
     // Improves the matching at a, if a is free and has links: an augmenting path is taken, or else
     // a light load is displaced.
     pub(super) fn improve(&self, tables: &mut Tables, a: usize)
-        ensures { OnBook L.Links.made L.Links.graph R.Ranking.before self.now
+        ensures { OnLinks L.Links.made L.Links.graph R.Ranking.before self.now
             (λ before t g. Changes g (improve before t g a) tables.old tables.new) }
     {
-        if !tables.is_free(a) || tables.links(a) == 0 {
+        if !tables.is_free(a) || tables.degree(a) == 0 {
             return;
         }
         if !self.augment(tables, a) {

@@ -6,7 +6,7 @@ ghost use Rattle.std.specs.Prelude.{◌≡◌};
 ghost use Rattle.rules.specs.Repair.{repair};
 ghost use Rattle.rules.specs.Calls.{in_order};
 ghost use Rattle.repair.specs.Holds.{Changes};
-ghost use Rattle.repair.specs.Book.{OnBook};
+ghost use Rattle.repair.specs.OnLinks.{OnLinks};
 
 use links::Links;
 use ranking::Ranking;
@@ -22,8 +22,8 @@ mod paths;
 ///
 /// The tables are lent to each call. They are to agree with the graph of the links and to hold a
 /// matching of it; then they do so afterwards, with the partners that the rules of repair give.
-/// Numbers past the tables are passed over.
-#[derive(Drop)]
+/// Numbers past the tables are passed over. No call refuses, and none changes the links.
+#[derive(Debug, Drop)]
 pub struct Repair<'a, L, R> {
     links: &'a L,
     ranking: &'a R,
@@ -31,7 +31,8 @@ pub struct Repair<'a, L, R> {
 }
 
 impl<'a, L, R> Repair<'a, L, R> {
-    /// A repair by these links, this ranking and this limit, which may be any number.
+    /// A repair by these links, this ranking and this limit, which may be any number. Looks at
+    /// nothing.
     pub fn new(links: &'a L, ranking: &'a R, limit: usize) -> Repair<'a, L, R>
         ensures links { result.links.now ≡ links.now }
         ensures ranking { result.ranking.now ≡ ranking.now }
@@ -49,10 +50,12 @@ impl<L: Links, R: Ranking> Repair<'_, L, R> {
     /// Repairs the matching at the loads, in their order: first each that is free is matched with
     /// the first free load that it is linked to, then an augmenting path of three links is taken at
     /// each that is still free, or else, where it has more links than the threshold, a light load
-    /// is displaced. Loads that have a partner or no links are passed over. Looks at the links of
-    /// the free loads of the list, and at those of each load that becomes free or is no longer.
+    /// is displaced. Loads that have a partner or no links are passed over.
+    ///
+    /// For each load of the list at most 6 loads get another partner. Looks at the links of the
+    /// free loads of the list, and at those of each load that becomes free or is no longer.
     pub fn repair(&self, tables: &mut Tables, loads: &[usize])
-        ensures { OnBook L.Links.made L.Links.graph R.Ranking.before self.now
+        ensures { OnLinks L.Links.made L.Links.graph R.Ranking.before self.now
             (λ before t g. Changes g (repair before t g loads.now) tables.old tables.new) }
     {
         for &load in loads {
@@ -67,7 +70,7 @@ impl<L: Links, R: Ranking> Repair<'_, L, R> {
     /// it does nothing, and looks at two records. Else it looks at the links of the free ones of
     /// the two, and at those of each load that becomes free or is no longer.
     pub fn repair_two(&self, tables: &mut Tables, a: usize, b: usize)
-        ensures { OnBook L.Links.made L.Links.graph R.Ranking.before self.now
+        ensures { OnLinks L.Links.made L.Links.graph R.Ranking.before self.now
             (λ before t g. Changes g (repair before t g (in_order a b)) tables.old tables.new) }
     {
         if tables.is_free(a) || tables.is_free(b) {

@@ -2,13 +2,12 @@
 ghost use Rattle.std.specs.Prelude.{◌≡◌};
 ghost use Rattle.rules.specs.Repair.{path_start_of};
 ghost use Rattle.tables.specs.Views.{partners_of, free_linked, Agrees};
-ghost use Rattle.repair.specs.Book.{OnBook};
+ghost use Rattle.repair.specs.OnLinks.{OnLinks};
 ghost use Rattle.repair.specs.Paths.{FirstOther, HasOther, GoesOver, PathIs};
 
 use crate::Repair;
 use crate::best::best_of;
 use links::Links;
-use links::walk::linked_loads;
 use ranking::Ranking;
 use tables::Tables;
 
@@ -24,9 +23,9 @@ fn has_other_free(tables: &Tables, y: usize, besides: usize) -> bool
     ensures { HasOther y besides tables.now result }
 {
     if is_free_linked(tables, y, besides) {
-        tables.free_links(y) > 1
+        tables.free_degree(y) > 1
     } else {
-        tables.free_links(y) > 0
+        tables.free_degree(y) > 0
     }
 }
 
@@ -49,12 +48,11 @@ impl<L: Links, R: Ranking> Repair<'_, L, R> {
 
     // The first in a's ranking with which an augmenting path of three links goes on from a.
     fn path_start(&self, tables: &Tables, a: usize) -> Option<usize>
-        ensures { OnBook L.Links.made L.Links.graph R.Ranking.before self.now
+        ensures { OnLinks L.Links.made L.Links.graph R.Ranking.before self.now
             (λ before t g. Agrees g tables.now
             → result ≡ path_start_of before g (partners_of tables.now) a) }
     {
-        let walk = linked_loads(self.links, a, 256);
-        best_of(self.ranking, a, walk, |x| goes_over(tables, a, x))
+        self.first_linked(a, |x| goes_over(tables, a, x))
     }
 
     // The first augmenting path of three links that begins at a: its four loads in their order.
@@ -63,7 +61,7 @@ impl<L: Links, R: Ranking> Repair<'_, L, R> {
         tables: &Tables,
         a: usize,
     ) -> Option<(usize, usize, usize, usize)>
-        ensures { OnBook L.Links.made L.Links.graph R.Ranking.before self.now
+        ensures { OnLinks L.Links.made L.Links.graph R.Ranking.before self.now
             (λ before t g. Agrees g tables.now
             → PathIs before g (partners_of tables.now) a result) }
     {

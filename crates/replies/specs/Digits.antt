@@ -1,17 +1,7 @@
--- Numbers in decimal digits, as bytes.
-use Rattle.std.specs.Prelude.{◌≡◌, ℕ, zero, suc, ◌+◌, ◌/◌, ◌%◌, ◌^◌, ◌<◌, cond, List, [], ◌∷◌, ◌++◌}
-use Rattle.std.specs.Prelude.{length, nat_lt, slice_index_or}
+-- What it is for bytes to be a number in decimal digits.
+use Rattle.std.specs.Prelude.{◌≡◌, ℕ, ◌+◌, ◌/◌, ◌%◌, ◌^◌, ◌<◌, List, [], ◌∷◌, length, decimal}
+use Rattle.std.specs.Prelude.{slice_index_or}
 use Rattle.std.specs.Str.Parse.{AllDigits, digits_value}
-
--- the last k decimal digits of a number, or all that it has
-abbrev pub digits_in : ℕ → ℕ → List ℕ
-digits_in zero n = []
-digits_in (suc k) n =
-    cond (nat_lt n 10) ((48 + n) ∷ []) (digits_in k (n / 10) ++ ((48 + n % 10) ∷ []))
-
--- the decimal digits of a number: no number has more than itself and one
-unfoldable pub digits : ℕ → List ℕ
-digits n = digits_in (suc n) n
 
 -- a number below 100 in two digits
 abbrev pub two_digits : ℕ → List ℕ
@@ -26,7 +16,7 @@ pub record Decimal (n : ℕ) (bytes : List ℕ) : Type 0 where
   pub no_leading_zero : slice_index_or bytes 0 0 ≡ 48 → bytes ≡ 48 ∷ []
 
 abbrev pub DigitsDecimal : Type 0
-DigitsDecimal = (n : ℕ) → n < 2 ^ 64 → Decimal n (digits n)
+DigitsDecimal = (n : ℕ) → n < 2 ^ 64 → Decimal n (decimal n)
 
 -- bytes that are n in two digits
 pub record TwoDecimal (n : ℕ) (bytes : List ℕ) : Type 0 where

@@ -1,27 +1,24 @@
 -- The lines of text that are answered, as bytes.
-use Rattle.std.specs.Prelude.{ℕ, List, ◌++◌, codes}
+use Rattle.std.specs.Prelude.{ℕ, List, ◌++◌, codes, decimal}
 use Rattle.links.specs.Words.{layer_name}
 use Rattle.links.specs.Refusals.{Reason, told}
 use Rattle.replies.specs.declared.Reply.{Reply}
 use Rattle.replies.specs.declared.Reply.TheVariants.{Done, Alone, With, No}
-use Rattle.replies.specs.Digits.{digits, two_digits}
+use Rattle.replies.specs.Digits.{two_digits}
 
 -- a reason to refuse, with the place of the command byte
-abbrev pub refusal_words : Reason → ℕ → List ℕ
-refusal_words reason place =
+abbrev pub refusal_line : Reason → ℕ → List ℕ
+refusal_line reason place =
     codes "no " ++ two_digits reason.number ++ codes " " ++ layer_name reason.layer
-    ++ codes " " ++ digits place
+    ++ codes " " ++ decimal place ++ codes "\n"
 
--- a reply without its line feed
-abbrev pub words : Reply → List ℕ
-words Done = codes "ok"
-words Alone = codes "alone"
-words (With partner) = codes "with " ++ digits partner
-words (No refused place) = refusal_words (told refused) place
-
+-- the line of a reply, with its line feed
 abbrev pub line : Reply → List ℕ
-line reply = words reply ++ codes "\n"
+line Done = codes "ok\n"
+line Alone = codes "alone\n"
+line (With partner) = codes "with " ++ decimal partner ++ codes "\n"
+line (No refused place) = refusal_line (told refused) place
 
 -- the line of two partners
 abbrev pub pair_line : ℕ → ℕ → List ℕ
-pair_line a b = digits a ++ codes " " ++ digits b ++ codes "\n"
+pair_line a b = decimal a ++ codes " " ++ decimal b ++ codes "\n"

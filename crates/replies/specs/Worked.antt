@@ -2,6 +2,7 @@
 use Rattle.std.specs.Prelude.{◌≡◌, length, codes}
 use Rattle.links.specs.declared.refusal.Layer.TheVariants.{Stream, Board, Book}
 use Rattle.links.specs.declared.refusal.Refusal.TheVariants.{SameLoad, LoadFull, UnknownCommand}
+use Rattle.replies.specs.declared.TheConstants.{LONGEST_LINE, LONGEST_PAIR}
 use Rattle.replies.specs.declared.Reply.TheVariants.{Done, Alone, With, No}
 use Rattle.replies.specs.Lines.{line, pair_line}
 
@@ -17,6 +18,7 @@ pub record WorkedLines : Type 0 where
   pub longest : line (No (record { refusal = UnknownCommand; layer = Stream }) 65535)
       ≡ codes "no 12 stream 65535\n"
   pub longest_has :
-      length (line (No (record { refusal = UnknownCommand; layer = Stream }) 65535)) ≡ 19
+      length (line (No (record { refusal = UnknownCommand; layer = Stream }) 65535))
+      ≡ LONGEST_LINE
   pub pair : pair_line 0 1 ≡ codes "0 1\n"
-  pub longest_pair : length (pair_line 254 255) ≡ 8
+  pub longest_pair : length (pair_line 254 255) ≡ LONGEST_PAIR

@@ -1,12 +1,13 @@
 -- The boards are computed, and the law of runs holds of them.
-use Rattle.std.proofs.Common.{◌≡◌, ℕ, ◌≤◌, false, List, [], ◌∷◌, Some, None, refl, arith}
+use Rattle.std.proofs.Common.{◌≡◌, ℕ, ◌-◌, ◌≤◌, false, List, [], ◌∷◌, Some, None, refl, arith}
 use Rattle.std.proofs.lemmas.Bool.{le-ltb, both_ways}
-use Rattle.graph.specs.Graph.{Graph, Simple, edgeless}
+use Rattle.graph.specs.Graph.{Graph, Simple, no_links}
 use Rattle.graph.specs.Matching.{Partners, Matching, FreeWalk}
 use Rattle.graph.proofs.Changes.{added_simple, removed_simple}
 use Rattle.graph.proofs.Counts.{link_count_none}
 use Rattle.graph.proofs.Paths.{free_taken, of_three}
-use Rattle.rules.specs.Boards.{Row, Six, Star, Ranked, Refusals, by_number, fresh, fresh_ledger, played, row, row_calls, six, six_calls, RowAugmenting}
+use Rattle.links.specs.Books.{fresh_ledger}
+use Rattle.rules.specs.Boards.{Row, Six, Star, Ranked, Refusals, by_number, fresh, played, row, row_calls, six, six_calls, RowAugmenting}
 use Rattle.rules.specs.Calls.{Position, Call, after}
 use Rattle.rules.specs.Laws.{Proper, Run, none, more}
 use Rattle.rules.specs.FailingRepairs.{InTurn, Closed, OnlyDisplaced, Unhealthy, six_graph, six_in_turn, triangle_closed, tail, tail_calls, tail_graph, tail_displaced}
@@ -48,9 +49,9 @@ refusals_told = record {
   withdraws_free = refl;
 }
 
-pub fresh_proper : (n limit : ℕ) → n ≤ 256 → limit ≤ 32640 → Proper (edgeless n) (fresh_ledger n limit)
+pub fresh_proper : (n limit : ℕ) → n ≤ 256 → limit ≤ 32640 → Proper (no_links n) (fresh_ledger n (n - 1) limit)
 fresh_proper n limit small bound =
-    let no_links = link_count_none (edgeless n) (λ _ _. refl) in
+    let no_links = link_count_none (no_links n) (λ _ _. refl) in
     record {
       simple = record { small = small; loopless = λ _. refl; symmetric = λ _ _. refl; below = λ a b e. absurd (both_ways false refl e) };
       bounded = record {
@@ -69,7 +70,7 @@ played_run start (c ∷ rest) x run = played_run start rest (after by_number x c
 
 played_simple : (n limit : ℕ) → n ≤ 256 → limit ≤ 32640 → (calls : List Call) → Simple (played calls (fresh n limit)).graph
 played_simple n limit small bound calls =
-    (law_of_runs by_number (edgeless n) (fresh_ledger n limit) (fresh_proper n limit small bound) (played calls (fresh n limit))
+    (law_of_runs by_number (no_links n) (fresh_ledger n (n - 1) limit) (fresh_proper n limit small bound) (played calls (fresh n limit))
     (played_run (fresh n limit) calls (fresh n limit) none)).sound.simple
 
 pub row_augmenting : RowAugmenting

@@ -6,7 +6,8 @@ use Rattle.graph.specs.Matching.{Partners, Free}
 use Rattle.graph.proofs.Changes.{added_simple, added_on, added_left, added_right, removed_simple}
 use Rattle.graph.proofs.Partners.{cases_option}
 use Rattle.graph.proofs.Paths.{free_apart, linked_apart}
-use Rattle.rules.specs.Calls.{in_order, parted, parted_from, the_one}
+use Rattle.std.specs.Option.{option_to_list}
+use Rattle.rules.specs.Calls.{in_order, parted, parted_from}
 use Rattle.rules.specs.Health.{Healthy}
 use Rattle.rules.specs.Repair.{Ranking, paired, freed, match_free, improve, repair}
 use Rattle.rules.proofs.Changes.{Alike, AtMost, Besides, paired_alike, improve_few, improve_taken, improve_done}
@@ -204,7 +205,7 @@ unlink_twelve before g t a b p s few healthy =
     ]
 
 pub withdraw_seven : (before : Ranking) (t : ℕ) (g : Graph) → Simple g → (a : ℕ) (p : Partners) (o : Option ℕ) →
-    AtMost 7 p (repair before t g (the_one o) (parted_from a p o))
+    AtMost 7 p (repair before t g (option_to_list o) (parted_from a p o))
 withdraw_seven before t g s a p None = ([], omega arith, λ w _. refl)
 withdraw_seven before t g s a p (Some b) =
     let (l, few, h) = one_few before t g s (freed a (freed b p)) b in

@@ -9,7 +9,8 @@ use Rattle.graph.proofs.Counts.{count_none}
 use Rattle.graph.proofs.Injections.{count_below}
 use Rattle.graph.proofs.Partners.{cases_option}
 use Rattle.graph.proofs.Paths.{free_taken, linked_apart}
-use Rattle.rules.specs.Calls.{in_order, parted, parted_from, the_one, isolated_two}
+use Rattle.std.specs.Option.{option_to_list}
+use Rattle.rules.specs.Calls.{in_order, parted, parted_from, isolated_two}
 use Rattle.rules.specs.Health.{Healthy}
 use Rattle.rules.specs.Repair.{Ranking, freed, repair}
 use Rattle.rules.proofs.Linking.{in_order_outside, in_order_inside}
@@ -121,7 +122,7 @@ unlink_healthy before g t a b p s few k =
 -- ---- withdrawing
 
 pub withdraw_fewer : (g : Graph) → Simple g → (a : ℕ) (p : Partners) → Matching g p → (o : Option ℕ) → p a ≡ o →
-    Fewer g (isolated g a) (Outside (the_one o)) p (parted_from a p o)
+    Fewer g (isolated g a) (Outside (option_to_list o)) p (parted_from a p o)
 withdraw_fewer g s a p m None n = record {
   size = refl;
   links = λ u v e. (isolated_old g a u v e).1;
@@ -151,11 +152,11 @@ withdraw_fewer g s a p m (Some b) n =
     }
 
 pub withdraw_healthy : (before : Ranking) (g : Graph) (t a : ℕ) (p : Partners) → Simple g → 2 * link_count (isolated g a) ≤ t * t →
-    Healthy g t p → Healthy (isolated g a) t (repair before t (isolated g a) (the_one (p a)) (parted_from a p (p a)))
+    Healthy g t p → Healthy (isolated g a) t (repair before t (isolated g a) (option_to_list (p a)) (parted_from a p (p a)))
 withdraw_healthy before g t a p s few k =
     let r = isolated_simple g a s in
-    repair_healthy before (isolated g a) r t few (the_one (p a)) (parted_from a p (p a))
-    (fewer_phase g (isolated g a) t (Outside (the_one (p a))) p (parted_from a p (p a)) (cases_outside (the_one (p a))) r
+    repair_healthy before (isolated g a) r t few (option_to_list (p a)) (parted_from a p (p a))
+    (fewer_phase g (isolated g a) t (Outside (option_to_list (p a))) p (parted_from a p (p a)) (cases_outside (option_to_list (p a))) r
     (withdraw_fewer g s a p k.matching (p a) refl) (healthy_done g s t p k))
 
 -- ---- departing

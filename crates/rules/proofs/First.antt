@@ -3,6 +3,7 @@ use Rattle.std.proofs.Common.{◌≡◌, ℕ, zero, suc, ◌<◌, Bool, true, fa
 use Rattle.std.proofs.lemmas.Bool.{cases_Bool, cases_eq, both_ways}
 use Rattle.graph.proofs.Partners.{cases_option}
 use Rattle.graph.proofs.Paths.{free_taken}
+use Rattle.ranking.proofs.Orders.{other_first}
 use Rattle.ranking.specs.Order.{StrictOrder}
 use Rattle.rules.specs.First.{first}
 use Rattle.rules.specs.Theorems.{Leads, FirstIs}
@@ -44,7 +45,7 @@ first_leads before r (suc n) test x e y l p k =
           | inl b ↦ let same : z ≡ x = cc in elim (cases_eq y n) [ inl s ↦ cc | inr s ↦ ih x (cc) y (omega arith) p k ]
           | inr b ↦ let same : n ≡ x = cc in
               let f = first_found before n test z o in
-              let less : before n z ≡ true = r.one_first z n (λ w. omega (arith, f.inside)) ∙ rw b in
+              let less : before n z ≡ true = other_first before r z n (λ w. omega (arith, f.inside)) b in
               elim (cases_eq y z) [ inl s ↦ cc | inr s ↦ let i = ih z o y (omega arith) p s in rw (← same) (r.transitive n z y less i) ]
         ]
       ]

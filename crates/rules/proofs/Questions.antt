@@ -27,8 +27,8 @@ question_same before x ask_pairs asks = refl
 lower_order : StrictOrder lower
 lower_order = record {
   irreflexive = λ x. grind (arith, nat_tests);
-  one_first = λ x y ne. grind (arith, nat_tests);
   transitive = λ x y z e f. grind (arith, nat_tests);
+  total = λ x y e f. grind (arith, nat_tests);
 }
 
 -- the smallest number at or above `from` that passes a test, which none from n on does

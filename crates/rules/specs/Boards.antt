@@ -1,9 +1,11 @@
 -- Boards played through by the rules, on fresh books and with the lower number first.
-use Rattle.std.specs.Prelude.{◌≡◌, ℕ, zero, suc, ◌+◌, ◌-◌, ◌%◌, ◌≤◌, Bool, false, cond, List, []}
-use Rattle.std.specs.Prelude.{◌∷◌, ◌++◌, Some, None, Option, ◌==◌, nat_lt}
-use Rattle.graph.specs.Graph.{edgeless, degree}
+use Rattle.std.specs.Prelude.{◌≡◌, ℕ, zero, suc, ◌+◌, ◌-◌, ◌%◌, ◌≤◌, Bool, false, List, []}
+use Rattle.std.specs.Prelude.{◌∷◌, ◌++◌, Some, None, Option, ◌==◌, nat_lt, if◌then◌else◌}
+use Rattle.graph.specs.Graph.{no_links, degree}
 use Rattle.graph.specs.Matching.{Augmenting}
-use Rattle.links.specs.Books.{Ledger, by_book}
+use Rattle.graph.specs.declared.TheConstants.{MOST_LOADS}
+use Rattle.links.specs.declared.TheConstants.{MOST_LINKS}
+use Rattle.links.specs.Books.{fresh_ledger, by_book}
 use Rattle.links.specs.Refusals.{Reason}
 use Rattle.ranking.specs.Order.{lower}
 use Rattle.rules.specs.Calls.{Position, Call, link, unlink, withdraw, depart, ask_partner, reason}
@@ -13,29 +15,24 @@ use Rattle.rules.specs.Repair.{Ranking, paired}
 use Rattle.rules.specs.Threshold.{threshold}
 
 abbrev pub Thresholds : Type 0
-Thresholds = (threshold 1 ≡ 2) × (threshold 8 ≡ 4) × (threshold 2048 ≡ 64) × (threshold 32640 ≡ 256)
+Thresholds =
+    (threshold 1 ≡ 2) × (threshold 8 ≡ 4) × (threshold 2048 ≡ 64)
+    × (threshold MOST_LINKS ≡ MOST_LOADS)
 
 -- ---- how boards are played and read
 
 abbrev pub by_number : Ranking
 by_number a = lower
 
--- the ledger of a book of n loads that has no links yet, and bars none
-abbrev pub fresh_ledger : ℕ → ℕ → Ledger
-fresh_ledger n limit =
-    record {
-      limit = limit;
-      barred = λ _ _. false;
-      spare = λ a. cond (nat_lt a n) (n - 1) 0;
-      room = limit;
-    }
-
+-- a board that is opened on a book without links, in which each load may be linked to every other
 abbrev pub fresh : ℕ → ℕ → Position
-fresh n limit = opened by_number (edgeless n) (fresh_ledger n limit)
+fresh n limit = opened by_number (no_links n) (fresh_ledger n (n - 1) limit)
 
 -- such a book is proper
 abbrev pub FreshProper : Type 0
-FreshProper = (n limit : ℕ) → n ≤ 256 → limit ≤ 32640 → Proper (edgeless n) (fresh_ledger n limit)
+FreshProper =
+    (n limit : ℕ) → n ≤ MOST_LOADS → limit ≤ MOST_LINKS →
+    Proper (no_links n) (fresh_ledger n (n - 1) limit)
 
 abbrev pub played_by : Ranking → List Call → Position → Position
 played_by before [] x = x
@@ -59,7 +56,8 @@ partners_in x = listed x.partners 0 x.graph.size
 -- the links of b with the loads below n, and the links of the loads below m with lower ones
 abbrev pub links_with : (ℕ → ℕ → Bool) → ℕ → ℕ → List (ℕ × ℕ)
 links_with linked b zero = []
-links_with linked b (suc n) = links_with linked b n ++ cond (linked n b) ((n, b) ∷ []) []
+links_with linked b (suc n) =
+    links_with linked b n ++ (if linked n b then (n, b) ∷ [] else [])
 
 abbrev pub links_below : (ℕ → ℕ → Bool) → ℕ → List (ℕ × ℕ)
 links_below linked zero = []
@@ -140,7 +138,7 @@ pub record Star : Type 0 where
 
 -- even loads would rather have the lower number, odd loads the higher
 abbrev pub by_parity : Ranking
-by_parity a x y = cond (a % 2 == 0) (nat_lt x y) (nat_lt y x)
+by_parity a x y = if a % 2 == 0 then nat_lt x y else nat_lt y x
 
 -- the path from 0 goes over 2 and 3, and ends at the first of 4 and 5 for the load 3
 abbrev pub ranked : Position
@@ -158,7 +156,7 @@ pub record Refusals : Type 0 where
   pub linked_already : reason row (link 2 1) ≡ by_book 6
   pub not_linked : reason row (unlink 0 3) ≡ by_book 7
   pub no_spare :
-      answers (link 0 1 ∷ link 0 2 ∷ []) (opened by_number (edgeless 3)
+      answers (link 0 1 ∷ link 0 2 ∷ []) (opened by_number (no_links 3)
       (record { limit = 3; barred = λ _ _. false; spare = λ _. 1; room = 3 }))
       ≡ None ∷ by_book 9 ∷ []
   pub no_room : answers (link 0 1 ∷ link 2 3 ∷ []) (fresh 4 1) ≡ None ∷ by_book 10 ∷ []

@@ -1,6 +1,7 @@
 -- What a board holds, and what each call answers and leaves.
-use Rattle.std.specs.Prelude.{ℕ, zero, suc, ◌+◌, Bool, true, false, cond, ◌&&◌, List, [], ◌∷◌, Some}
-use Rattle.std.specs.Prelude.{None, Option, ◌==◌, nat_le, nat_lt}
+use Rattle.std.specs.Prelude.{ℕ, zero, suc, ◌+◌, Bool, true, false, ◌&&◌, List, [], ◌∷◌, Some}
+use Rattle.std.specs.Prelude.{None, Option, ◌==◌, nat_le, nat_lt, if◌then◌else◌}
+use Rattle.std.specs.Option.{option_to_list}
 use Rattle.graph.specs.Graph.{Graph, count, degree, added, removed}
 use Rattle.graph.specs.Isolated.{isolated}
 use Rattle.graph.specs.Matching.{Partners}
@@ -48,18 +49,15 @@ by_board number = by Board number
 
 -- 4: not a load
 abbrev pub unless_load : Graph → ℕ → Option Reason → Option Reason
-unless_load g a otherwise = cond (nat_le g.size a) (by_board 4) otherwise
-
--- 4: not two loads; 5: the same load twice
-abbrev pub unless_two : Graph → ℕ → ℕ → Option Reason → Option Reason
-unless_two g a b otherwise = unless_two_of Board g.size a b otherwise
+unless_load g a otherwise = if nat_le g.size a then by_board 4 else otherwise
 
 -- the reason to refuse a call, if there is one
 abbrev pub reason : Position → Call → Option Reason
-reason x (link a b) = unless_two x.graph a b (adding x.graph x.ledger a b)
-reason x (unlink a b) = unless_two x.graph a b (removing x.graph a b)
+reason x (link a b) = unless_two_of Board x.graph.size a b (adding x.graph x.ledger a b)
+reason x (unlink a b) = unless_two_of Board x.graph.size a b (removing x.graph a b)
 reason x (withdraw a) = unless_load x.graph a None
-reason x (depart a) = unless_load x.graph a (cond (is_free x.partners a) (by_board 11) None)
+reason x (depart a) =
+    unless_load x.graph a (if is_free x.partners a then by_board 11 else None)
 reason x (ask_partner a) = unless_load x.graph a None
 reason x (ask_free_links a) = unless_load x.graph a None
 reason x (ask_next_free a from) = unless_load x.graph a None
@@ -109,26 +107,23 @@ abbrev pub released : Graph → Ledger → ℕ → Ledger
 released g l a = record {
   limit = l.limit;
   barred = l.barred;
-  spare = λ x. l.spare x + cond (a == x) (degree g a) (cond (g.linked a x) 1 0);
+  spare = λ x. l.spare x
+      + (if a == x then degree g a else (if g.linked a x then 1 else 0));
   room = l.room + degree g a;
 }
 
 abbrev pub in_order : ℕ → ℕ → List ℕ
-in_order a b = cond (nat_lt a b) (a ∷ b ∷ []) (b ∷ a ∷ [])
+in_order a b = if nat_lt a b then a ∷ b ∷ [] else b ∷ a ∷ []
 
 -- a and b parted, if b is the partner that a has
 abbrev pub parted : ℕ → ℕ → Partners → Option ℕ → Partners
 parted a b p None = p
-parted a b p (Some x) = cond (x == b) (freed a (freed b p)) p
+parted a b p (Some x) = if x == b then freed a (freed b p) else p
 
 -- a parted from the partner that it has, if it has one
 abbrev pub parted_from : ℕ → Partners → Option ℕ → Partners
 parted_from a p None = p
 parted_from a p (Some b) = freed a (freed b p)
-
-abbrev pub the_one : Option ℕ → List ℕ
-the_one None = []
-the_one (Some b) = b ∷ []
 
 -- without the links of a, and without those of the partner that it has
 abbrev pub isolated_two : Graph → ℕ → Option ℕ → Graph
@@ -153,8 +148,8 @@ granted before x (unlink a b) =
     repaired before (removed x.graph a b) (raised x.ledger a b) (in_order a b)
     (parted a b x.partners (x.partners a))
 granted before x (withdraw a) =
-    repaired before (isolated x.graph a) (released x.graph x.ledger a) (the_one (x.partners a))
-    (parted_from a x.partners (x.partners a))
+    repaired before (isolated x.graph a) (released x.graph x.ledger a)
+    (option_to_list (x.partners a)) (parted_from a x.partners (x.partners a))
 granted before x (depart a) = record {
   graph = isolated_two x.graph a (x.partners a);
   ledger = released_two x.graph x.ledger a (x.partners a);

@@ -1,7 +1,7 @@
 -- Repairs that look right and are not: each is the repair with one change, on a board that it
 -- leaves unhealthy.
-use Rattle.std.specs.Prelude.{◌≡◌, ℕ, Bool, false, cond, ◌&&◌, List, [], ◌∷◌, Some, None, Option}
-use Rattle.std.specs.Prelude.{nat_lt}
+use Rattle.std.specs.Prelude.{◌≡◌, ℕ, Bool, false, ◌&&◌, List, [], ◌∷◌, Some, None, Option}
+use Rattle.std.specs.Prelude.{nat_lt, if◌then◌else◌}
 use Rattle.graph.specs.Graph.{Graph, degree, added, removed}
 use Rattle.graph.specs.Matching.{Partners, FreeWalk}
 use Rattle.graph.specs.Pairs.{is_free}
@@ -51,10 +51,9 @@ closed_improved t g p a (Some x) = closed_exchanged g p a x (p x)
 
 abbrev pub closed_improve : ℕ → Graph → ℕ → Partners → Partners
 closed_improve t g a p =
-    cond (is_free p a)
-    (closed_improved t g p a
+    if is_free p a then closed_improved t g p a
     (first (by_number a) g.size
-    (λ x. g.linked a x && any_below g.size (ends_anywhere g p (p x))))) p
+    (λ x. g.linked a x && any_below g.size (ends_anywhere g p (p x)))) else p
 
 abbrev pub wedge : Position
 wedge = played (link 1 2 ∷ link 0 1 ∷ []) (fresh 3 3)
@@ -85,11 +84,12 @@ only_displaced_from p a (Some x) = only_displaced p a x (p x)
 
 abbrev pub only_improved : ℕ → Graph → Partners → ℕ → Option ℕ → Partners
 only_improved t g p a None =
-    cond (nat_lt t (degree g a)) (only_displaced_from p a (light_start_of by_number t g p a)) p
+    if nat_lt t (degree g a) then only_displaced_from p a (light_start_of by_number t g p a) else p
 only_improved t g p a (Some x) = exchanged by_number g p a x (p x)
 
 abbrev pub only_improve : ℕ → Graph → ℕ → Partners → Partners
-only_improve t g a p = cond (is_free p a) (only_improved t g p a (path_start_of by_number g p a)) p
+only_improve t g a p =
+    if is_free p a then only_improved t g p a (path_start_of by_number g p a) else p
 
 -- load 0 with five links, and a path from the partner of its first neighbour on: 2, 7, 8, 9
 abbrev pub tail_calls : List Call

@@ -1,6 +1,6 @@
 -- What holds of a position at each moment, and between two.
-use Rattle.std.specs.Prelude.{◌≡◌, ℕ, ◌+◌, ◌*◌, ◌<◌, ◌≤◌, Bool, true, false, not, Some, None}
-use Rattle.std.specs.Prelude.{Option, ◌==◌}
+use Rattle.std.specs.Prelude.{◌≡◌, ℕ, ◌+◌, ◌*◌, ◌<◌, ◌≤◌, Bool, not, Option, ◌==◌}
+use Rattle.std.specs.Option.{option_eq}
 use Rattle.graph.specs.Graph.{Graph, Simple, count, degree, link_count}
 use Rattle.graph.specs.Matching.{Partners, Free, Matching, NoAugmenting}
 use Rattle.graph.specs.Pairs.{pairs}
@@ -37,10 +37,7 @@ pub record Follows (x y : Position) : Type 0 where
   pub room : y.ledger.room + link_count y.graph ≡ x.ledger.room + link_count x.graph
 
 abbrev pub same_partner : Option ℕ → Option ℕ → Bool
-same_partner None None = true
-same_partner None (Some y) = false
-same_partner (Some x) None = false
-same_partner (Some x) (Some y) = x == y
+same_partner = option_eq (λ x y. x == y)
 
 -- how many loads have another partner in y than in x, or one only in x or only in y
 abbrev pub changes : Position → Position → ℕ

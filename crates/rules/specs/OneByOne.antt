@@ -1,5 +1,5 @@
 -- Dropping all links of a load, link by link.
-use Rattle.std.specs.Prelude.{◌≡◌, ℕ, zero, suc, cond}
+use Rattle.std.specs.Prelude.{◌≡◌, ℕ, zero, suc, if◌then◌else◌}
 use Rattle.graph.specs.Graph.{Graph, Simple, removed}
 use Rattle.graph.specs.Isolated.{isolated}
 use Rattle.links.specs.Books.{Ledger, raised}
@@ -8,13 +8,14 @@ use Rattle.rules.specs.Calls.{released}
 -- the graph without the links of a with the loads below k, each removed in turn
 abbrev pub stripped : Graph → ℕ → ℕ → Graph
 stripped g a zero = g
-stripped g a (suc k) = cond (g.linked a k) (removed (stripped g a k) a k) (stripped g a k)
+stripped g a (suc k) =
+    if g.linked a k then removed (stripped g a k) a k else stripped g a k
 
 -- the ledger raised for each of them
 abbrev pub stripped_ledger : Graph → Ledger → ℕ → ℕ → Ledger
 stripped_ledger g l a zero = l
 stripped_ledger g l a (suc k) =
-    cond (g.linked a k) (raised (stripped_ledger g l a k) a k) (stripped_ledger g l a k)
+    if g.linked a k then raised (stripped_ledger g l a k) a k else stripped_ledger g l a k
 
 pub record OneByOne (g : Graph) (l : Ledger) (a : ℕ) : Type 0 where
   pub graph : stripped g a g.size ≡ isolated g a

@@ -1,6 +1,6 @@
 -- How a matching is repaired at a set of loads.
-use Rattle.std.specs.Prelude.{ℕ, zero, suc, Bool, false, cond, not, ◌&&◌, ◌||◌, List, [], ◌∷◌, Some}
-use Rattle.std.specs.Prelude.{None, Option, ◌==◌, nat_le, nat_lt}
+use Rattle.std.specs.Prelude.{ℕ, zero, suc, Bool, false, not, ◌&&◌, ◌||◌, List, [], ◌∷◌, Some}
+use Rattle.std.specs.Prelude.{None, Option, ◌==◌, nat_le, nat_lt, if◌then◌else◌}
 use Rattle.graph.specs.Graph.{Graph, degree}
 use Rattle.graph.specs.Matching.{Partners}
 use Rattle.graph.specs.Pairs.{is_free}
@@ -12,11 +12,11 @@ Ranking = ℕ → ℕ → ℕ → Bool
 
 -- a and b are partners
 abbrev pub paired : ℕ → ℕ → Partners → Partners
-paired a b p x = cond (x == a) (Some b) (cond (x == b) (Some a) (p x))
+paired a b p x = if x == a then Some b else (if x == b then Some a else p x)
 
 -- a has no partner
 abbrev pub freed : ℕ → Partners → Partners
-freed a p x = cond (x == a) None (p x)
+freed a p x = if x == a then None else p x
 
 -- a and the load that was found, if any, are partners
 abbrev pub paired_found : ℕ → Option ℕ → Partners → Partners
@@ -55,7 +55,7 @@ module _ (before : Ranking) (g : Graph) where
   -- a free load takes the first of the free loads that it is linked to
   abbrev pub match_free : ℕ → Partners → Partners
   match_free a p =
-      cond (is_free p a) (paired_found a (first (before a) g.size (free_link g p a)) p) p
+      if is_free p a then paired_found a (first (before a) g.size (free_link g p a)) p else p
 
   -- the first x such that an augmenting path of three links begins with a, x
   abbrev pub path_start_of : Partners → ℕ → Option ℕ
@@ -91,7 +91,7 @@ module _ (before : Ranking) (t : ℕ) (g : Graph) where
 
   -- a load of more than t links displaces a light one
   abbrev pub displace : ℕ → Partners → Partners
-  displace a p = cond (nat_lt t (degree g a)) (displaced_from p a (light_start_of p a)) p
+  displace a p = if nat_lt t (degree g a) then displaced_from p a (light_start_of p a) else p
 
   -- an augmenting path is taken where one begins, or else a light load is displaced
   abbrev pub improved : Partners → ℕ → Option ℕ → Partners
@@ -99,7 +99,7 @@ module _ (before : Ranking) (t : ℕ) (g : Graph) where
   improved p a (Some x) = exchanged before g p a x (p x)
 
   abbrev pub improve : ℕ → Partners → Partners
-  improve a p = cond (is_free p a) (improved p a (path_start_of before g p a)) p
+  improve a p = if is_free p a then improved p a (path_start_of before g p a) else p
 
   -- first each load of the set is matched with a free one, then each that is still free is improved
   abbrev pub repair : List ℕ → Partners → Partners

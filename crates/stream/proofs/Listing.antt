@@ -9,7 +9,7 @@ use Rattle.graph.specs.Graph.{Graph, Simple, count}
 use Rattle.graph.specs.Matching.{Partners, Matching}
 use Rattle.graph.specs.Pairs.{is_lower, pairs}
 use Rattle.graph.proofs.Pairs.{at_lower}
-use Rattle.links.specs.Outputs.{Writes}
+use Rattle.outputs.specs.Outputs.{Writes}
 use Rattle.links.specs.Refusals.{Reason, told}
 use Rattle.links.specs.declared.refusal.Refused.{Refused}
 use Rattle.rules.specs.Calls.{Position, pairs_of}

@@ -5,7 +5,7 @@ use Rattle.std.proofs.lemmas.Bool.{cond-true, cond-false, cases_lt, le-leb, lt-l
 use Rattle.std.proofs.lemmas.Bool.Decides.{nat_tests}
 use Rattle.graph.specs.Graph.{Graph}
 use Rattle.links.specs.Books.{Ledger}
-use Rattle.links.specs.Outputs.{unless_fits, Writes}
+use Rattle.outputs.specs.Outputs.{unless_fits, Writes}
 use Rattle.links.specs.Refusals.{Reason, Answers, told}
 use Rattle.links.specs.declared.refusal.Refused.{Refused}
 use Rattle.rules.specs.Calls.{Position, Answer, reason, answer}
@@ -17,11 +17,11 @@ use Rattle.commands.specs.Commands.{bytes, decoding, decoded, followed, Reads, S
 use Rattle.commands.specs.declared.Command.{Command}
 use Rattle.commands.specs.declared.Decoded.{Decoded}
 use Rattle.commands.proofs.Reading.{reading_inside}
-use Rattle.replies.specs.Lines.{words, line}
+use Rattle.replies.specs.Lines.{line}
 use Rattle.replies.specs.declared.Reply.{Reply}
 use Rattle.replies.specs.declared.Reply.TheVariants.{No}
 use Rattle.stream.specs.Replies.{call_of, reply_to, reply_at, on_granted, CarriesOut}
-use Rattle.stream.specs.Steps.{Found, at_end, no_command, command, found_by, found_at, answer_words, words_by, step_of, step_at, stepping, WritesLine, Takes, Makes, Steps}
+use Rattle.stream.specs.Steps.{Found, at_end, no_command, command, found_by, found_at, answer_line, line_by, step_of, step_at, stepping, WritesLine, Takes, Makes, Steps}
 use Rattle.stream.specs.declared.Stepped.{Stepped}
 
 pub stepping_none : (stream out : List ℕ) → stepping stream out ≡ None → (length stream ≤ 65536) × (19 ≤ length out)
@@ -87,11 +87,11 @@ replied_same c place (Ok v) = refl
 replied_same c place (Err e) = refl
 
 line_same : (x : Position) (c : Command) (place : ℕ) (r : Result (Answer (call_of c)) Refused) →
-    Answers (reason x (call_of c)) r (λ v. v ≡ answer x (call_of c)) → line (reply_at c place r) ≡ answer_words x c place ++ codes "\n"
+    Answers (reason x (call_of c)) r (λ v. v ≡ answer x (call_of c)) → line (reply_at c place r) ≡ answer_line x c place
 line_same x c place (Ok v) answers =
-    ap (λ (w : Answer (call_of c)). words (reply_to c w) ++ codes "\n") answers.1
-    ∙ ap (λ (o : Option Reason). words_by o place (words (reply_to c (answer x (call_of c)))) ++ codes "\n") (sym answers.0)
-line_same x c place (Err e) answers = ap (λ (o : Option Reason). words_by o place (words (reply_to c (answer x (call_of c)))) ++ codes "\n") (sym answers)
+    ap (λ (w : Answer (call_of c)). line (reply_to c w)) answers.1
+    ∙ ap (λ (o : Option Reason). line_by o place (line (reply_to c (answer x (call_of c))))) (sym answers.0)
+line_same x c place (Err e) answers = ap (λ (o : Option Reason). line_by o place (line (reply_to c (answer x (call_of c))))) (sym answers)
 
 module _ {B R F : Type 0} (graph : B → Graph) (made : B → Type 0) (ledger : B → Ledger) (fixed : B → F) (before : R → Ranking) where
   -- at a place, the board s has this reply, and is t after it, with the place `next`: what holds once its line is written
@@ -137,22 +137,6 @@ module _ {B R F : Type 0} {graph : B → Graph} {made : B → Type 0} {ledger : 
         takes = λ from p out writes. subst (λ (f : Found). Takes graph made ledger fixed before f s place from p s out) (sym found) (refl, writes);
         makes = λ stood from p out writes.
             subst (λ (f : Found). Makes graph made ledger fixed before (step_of (before s.ranking) x place f) from p s out) (sym found)
-            (record { writes = writes; position_is = refl; stands = stood });
-      }
-
-  pub steps_ended : {from : List ℕ} → stepping stream from ≡ None → length stream ≤ 65536 → Reads stream place (Ok None) →
-      Steps graph made ledger fixed before s stream place from (Ok (record { place = place; written = 0 })) s from
-  steps_ended {from} none short reads =
-      let x = position graph ledger s in
-      let found = found_end stream place short reads in
-      let p : Stepped = record { place = place; written = 0 } in
-      let writes : WritesLine [] place from p from = record { place_is = refl; written_is = refl; out_is = refl; short = omega arith } in
-      record {
-        board_kept = tt;
-        out_kept = tt;
-        answers = (none, subst (λ (f : Found). Takes graph made ledger fixed before f s place from p s from) (sym found) (refl, writes));
-        by_rules = λ stood.
-            subst (λ (f : Found). Makes graph made ledger fixed before (step_of (before s.ranking) x place f) from p s from) (sym found)
             (record { writes = writes; position_is = refl; stands = stood });
       }
 

@@ -1,6 +1,6 @@
 -- The list of the pairs of a board.
-use Rattle.std.specs.Prelude.{◌≡◌, ℕ, zero, suc, ◌*◌, ◌≤◌, cond, List, [], ◌++◌, length, drop, Some}
-use Rattle.std.specs.Prelude.{None, IfOk, IfErr, Option, Result, nat_lt}
+use Rattle.std.specs.Prelude.{◌≡◌, ℕ, zero, suc, ◌*◌, ◌≤◌, List, [], ◌++◌, length, drop, Some}
+use Rattle.std.specs.Prelude.{None, IfOk, IfErr, Option, Result, nat_lt, if◌then◌else◌}
 use Rattle.graph.specs.Matching.{Partners}
 use Rattle.links.specs.Books.{by}
 use Rattle.links.specs.Refusals.{Reason, Answers, Kept, told}
@@ -8,11 +8,12 @@ use Rattle.links.specs.declared.refusal.Layer.TheVariants.{Stream}
 use Rattle.links.specs.declared.refusal.Refused.{Refused}
 use Rattle.rules.specs.Calls.{Position, pairs_of}
 use Rattle.replies.specs.Lines.{pair_line}
+use Rattle.replies.specs.declared.TheConstants.{LONGEST_PAIR}
 
 -- the line of a load and the partner that it has, at the lower of the two
 abbrev pub lower_line : ℕ → Option ℕ → List ℕ
 lower_line a None = []
-lower_line a (Some b) = cond (nat_lt a b) (pair_line a b) []
+lower_line a (Some b) = if nat_lt a b then pair_line a b else []
 
 -- the lines of the pairs whose lower load is below n, in the order of the lower loads
 abbrev pub pair_lines : ℕ → Partners → List ℕ
@@ -26,9 +27,10 @@ lines_of x = pair_lines x.graph.size x.partners
 abbrev pub too_short : Option Reason
 too_short = by Stream 14
 
--- there are not 8 bytes for each pair
+-- there is no room for the longest line of each pair
 abbrev pub listing : Position → List ℕ → Option Reason
-listing x out = cond (nat_lt (length out) (8 * pairs_of x)) too_short None
+listing x out =
+    if nat_lt (length out) (LONGEST_PAIR * pairs_of x) then too_short else None
 
 -- how the pairs of a board are listed at the start of the output `from`. On every board: refused,
 -- which it is with 14 alone, the output stays as it was, and granted, all that lies past the length

@@ -1,7 +1,7 @@
 -- How a stream of commands is played on a board, a command at a time, and the lines that are
 -- answered.
-use Rattle.std.specs.Prelude.{◌≡◌, ℕ, ◌+◌, ◌≤◌, cond, List, [], ◌++◌, length, drop, Some, None}
-use Rattle.std.specs.Prelude.{IfOk, codes, Option, Result, nat_le, nat_lt}
+use Rattle.std.specs.Prelude.{◌≡◌, ℕ, ◌+◌, ◌≤◌, List, [], ◌++◌, length, drop, Some, None}
+use Rattle.std.specs.Prelude.{IfOk, Option, Result, nat_le, nat_lt, if◌then◌else◌}
 use Rattle.graph.specs.Graph.{Graph}
 use Rattle.links.specs.Books.{Ledger, by}
 use Rattle.links.specs.Refusals.{Reason, Answers, Kept}
@@ -13,7 +13,8 @@ use Rattle.board.specs.Boards.{position, Stands, Steps as BoardSteps}
 use Rattle.board.specs.declared.Board.{Board}
 use Rattle.commands.specs.Commands.{bytes, decoding, decoded, unless_short}
 use Rattle.commands.specs.declared.Command.{Command}
-use Rattle.replies.specs.Lines.{words, line, refusal_words}
+use Rattle.replies.specs.Lines.{line, refusal_line}
+use Rattle.replies.specs.declared.TheConstants.{LONGEST_LINE}
 use Rattle.stream.specs.Replies.{call_of, reply_to, reply_at}
 use Rattle.stream.specs.declared.Stepped.{Stepped}
 
@@ -31,7 +32,7 @@ found_by (Some why) c = no_command why
 abbrev pub found_at : List ℕ → ℕ → Found
 found_at stream place =
     let rest = drop place stream in
-    cond (nat_le (length stream) place) at_end (found_by (decoding rest) (decoded rest))
+    if nat_le (length stream) place then at_end else found_by (decoding rest) (decoded rest)
 
 -- ---- by the rules, on a board that stands
 
@@ -41,25 +42,25 @@ pub record Step : Type 0 where
   pub place : ℕ
   pub line : List ℕ
 
-abbrev pub words_by : Option Reason → ℕ → List ℕ → List ℕ
-words_by None place granted = granted
-words_by (Some why) place granted = refusal_words why place
+abbrev pub line_by : Option Reason → ℕ → List ℕ → List ℕ
+line_by None place granted = granted
+line_by (Some why) place granted = refusal_line why place
 
--- what is answered to a command that stands at a place
-abbrev pub answer_words : Position → Command → ℕ → List ℕ
-answer_words x c place =
-    words_by (reason x (call_of c)) place (words (reply_to c (answer x (call_of c))))
+-- the line that answers a command at a place
+abbrev pub answer_line : Position → Command → ℕ → List ℕ
+answer_line x c place =
+    line_by (reason x (call_of c)) place (line (reply_to c (answer x (call_of c))))
 
 -- a step by what stands at the place; where it is no command, or the end, the place stays
 abbrev pub step_of : Ranking → Position → ℕ → Found → Step
 step_of before x place at_end = record { position = x; place = place; line = [] }
 step_of before x place (no_command why) =
-    record { position = x; place = place; line = refusal_words why place ++ codes "\n" }
+    record { position = x; place = place; line = refusal_line why place }
 step_of before x place (command c) =
     record {
       position = after before x (call_of c);
       place = place + length (bytes c);
-      line = answer_words x c place ++ codes "\n";
+      line = answer_line x c place;
     }
 
 abbrev pub step_at : Ranking → Position → List ℕ → ℕ → Step
@@ -70,7 +71,7 @@ step_at before x stream place = step_of before x place (found_at stream place)
 -- why a step is refused: the stream is too long, or 14: the output may be too short for a line
 abbrev pub stepping : List ℕ → List ℕ → Option Reason
 stepping stream out =
-    unless_short stream (cond (nat_lt (length out) 19) (by Stream 14) None)
+    unless_short stream (if nat_lt (length out) LONGEST_LINE then by Stream 14 else None)
 
 -- a line was written at the start of the output `from`, and its length answered with the place
 -- after the step
@@ -79,7 +80,7 @@ pub record WritesLine (line : List ℕ) (place : ℕ) (from : List ℕ) (r : Ste
   pub place_is : r.place ≡ place
   pub written_is : r.written ≡ length line
   pub out_is : out ≡ line ++ drop (length line) from
-  pub short : length line ≤ 19
+  pub short : length line ≤ LONGEST_LINE
 
 module _ {B R F : Type 0} (graph : B → Graph) (made : B → Type 0) (ledger : B → Ledger)
     (fixed : B → F) (before : R → Ranking) where
@@ -96,7 +97,7 @@ module _ {B R F : Type 0} (graph : B → Graph) (made : B → Type 0) (ledger : 
   abbrev pub Takes : Found → Board B R → ℕ → List ℕ → Stepped → Board B R → List ℕ → Type 0
   Takes at_end s place from r t out = (t ≡ s) × WritesLine [] place from r out
   Takes (no_command why) s place from r t out =
-      (t ≡ s) × WritesLine (refusal_words why place ++ codes "\n") place from r out
+      (t ≡ s) × WritesLine (refusal_line why place) place from r out
   Takes (command c) s place from r t out = Plays s c place from r t out
 
   -- a step y of the rules was made, and the board t stands at its position

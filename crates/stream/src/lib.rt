@@ -3,7 +3,7 @@
 
 ghost use Rattle.std.specs.Prelude.{◌≡◌, ◌≤◌, ◌<◌, length, IfSome, if◌then◌else◌};
 ghost use Rattle.graph.specs.Pairs.{below_partner};
-ghost use Rattle.links.specs.Outputs.{Writes};
+ghost use Rattle.outputs.specs.Outputs.{Writes};
 ghost use Rattle.links.specs.Refusals.{Answers};
 ghost use Rattle.board.specs.Boards.{position, Stands};
 ghost use Rattle.stream.specs.Pairs.{lower_line, Lists};
@@ -12,17 +12,21 @@ ghost use Rattle.stream.specs.Steps.{stepping, Steps};
 
 use board::Board;
 use commands::{Command, check_length, read};
-use links::{Book, Layer, Links, Refusal, Refused, write_start};
+use links::{Book, Layer, Links, Refusal, Refused};
+use outputs::write_start;
 use ranking::Ranking;
 use replies::{LONGEST_LINE, LONGEST_PAIR, Reply, write_pair};
 
 // There is at most a line for each of 256 loads.
 const LONGEST_LIST: usize = 256 * LONGEST_PAIR;
 
-/// The place after a step, and how many bytes of its line were written.
+/// What a step came to.
 #[derive(Clone, Copy, PartialEq, Eq, Debug)]
 pub struct Stepped {
+    /// The place after the command; where no command stands at the place given, that place.
     pub place: usize,
+    /// How many bytes the line has, line feed included: 0 at or past the end of the stream, else 3
+    /// to 19.
     pub written: usize,
 }
 
@@ -58,6 +62,7 @@ fn play<B: Book, R: Ranking>(board: &mut Board<B, R>, command: Command) -> Resul
     }
 }
 
+// Refuses a step with 3 or 14, as `step` says.
 fn check_step(stream: &[u8], out: &[u8]) -> Result<(), Refused>
     ensures { Answers (stepping stream.now out.now) result (λ _. Unit {0}) }
 {
@@ -68,10 +73,18 @@ fn check_step(stream: &[u8], out: &[u8]) -> Result<(), Refused>
     Ok(())
 }
 
-/// Plays the command at a place of the stream, and writes the line that answers it at the start of
-/// `out`. At or past the end it does nothing; after 12 and 13, where the bytes are no command, the
-/// place stays. Refused with 3 (stream) where the stream has more than 65,536 bytes, then with 14
-/// (stream) where `out` has fewer than 19; then nothing is changed or written.
+/// Plays the command at a place of the stream by the board's own call, and writes the line that
+/// answers it at the start of `out`. What lies past the line stays as it was. At or past the end
+/// nothing is changed or written. `place` may be any number.
+///
+/// Refused with 3 (stream) where the stream has more than 65,536 bytes, then with 14 (stream) where
+/// `out` has fewer than 19, whatever the line would be. Board and output stay as they were then. No
+/// other reason refuses a step: where the board refuses the command, or the bytes are no command
+/// (12 and 13), the step is made, and its line tells the reason. The board stays as it was, and
+/// after 12 and 13 the place stays too.
+///
+/// Looks at no more than five bytes of the stream. The rest of the cost is that of the board's
+/// call.
 pub fn step<B: Book, R: Ranking>(
     board: &mut Board<B, R>,
     stream: &[u8],
@@ -101,7 +114,8 @@ fn write_lower(a: usize, partner: Option<usize>, out: &mut [u8]) -> Result<usize
     requires load { a < 256 }
     requires partner { IfSome partner (λ b. b < 256) }
     ensures writes { Writes (lower_line a partner) out.old result out.new }
-    ensures short { length (lower_line a partner) ≤ (if below_partner a partner then 8 else 0) }
+    ensures short { length (lower_line a partner)
+        ≤ (if below_partner a partner then LONGEST_PAIR else 0) }
 {
     match partner {
         Some(b) if a < b => write_pair(a as u8, b as u8, out),
@@ -110,9 +124,14 @@ fn write_lower(a: usize, partner: Option<usize>, out: &mut [u8]) -> Result<usize
 }
 
 /// Writes a line for each pair at the start of `out`, the lower load first, in the order of the
-/// lower loads, and answers how many bytes they have. Refused with 14 (stream) where `out` has
-/// fewer than 8 bytes for each pair; nothing is written then. On a board that did not come from
-/// opening, lines that do not fit are refused in the same way.
+/// lower loads, and answers how many bytes they have: on an opened board at most 1,024. What lies
+/// past them stays as it was.
+///
+/// Refused with 14 (stream) where `out` has fewer than 8 bytes for each pair, and nothing is
+/// written then. On a board that did not come from opening, lines that do not fit are refused in
+/// the same way.
+///
+/// Looks at the record of each load, twice.
 pub fn list_pairs<B: Book, R: Ranking>(
     board: &Board<B, R>,
     out: &mut [u8],
@@ -120,7 +139,7 @@ pub fn list_pairs<B: Book, R: Ranking>(
     ensures { Lists (Stands B.Links.graph B.Links.made B.Book.ledger board.now)
         (position B.Links.graph B.Book.ledger board.now) out.old result out.new }
 {
-    if out.len() / LONGEST_PAIR < board.pairs() {
+    if out.len() / LONGEST_PAIR < board.pair_count() {
         return Err(Refusal::OutputTooShort.by(Layer::Stream));
     }
     let mut lines = [0; LONGEST_LIST];

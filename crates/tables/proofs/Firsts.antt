@@ -1,23 +1,23 @@
--- The first in a ranking, found by a walk over a set.
+-- The first in a ranking, found among the members of a set, one by one.
 use Rattle.std.proofs.Common.{◌≡◌, ℕ, zero, suc, ◌+◌, ◌<◌, ◌≤◌, Bool, true, false, Some, None, Option, sym, ap, ◌∙◌, subst, ap₂, inl, inr, arith}
 use mathlib.Core.Path.{fun_ext}
 use Rattle.std.proofs.lemmas.Bool.{cases_lt, cases_eq, cases_Bool, cond-true, cond-false, and_left, and_parts}
-use Rattle.graph.specs.Graph.{Graph, Simple, First, count}
+use Rattle.graph.specs.Graph.{Graph, Simple, First, count, NextBelow}
 use Rattle.graph.specs.Pairs.{is_free}
 use Rattle.graph.proofs.Partners.{none_is}
 use Rattle.graph.proofs.Paths.{linked_apart}
-use Rattle.links.specs.declared.walk.Walk.{Walk}
-use Rattle.links.specs.Walks.{NextBelow, past, Walks}
+use Rattle.links.specs.declared.members.MembersInOrder.{MembersInOrder}
+use Rattle.links.specs.InOrder.{past, GivesNext}
 use Rattle.ranking.specs.First.{earlier}
 use Rattle.rules.specs.First.{first}
 use Rattle.rules.specs.Repair.{Ranking, free_link, paired_found, match_free}
 use Rattle.rules.proofs.First.{first_found}
 use Rattle.tables.specs.declared.Tables.{Tables}
-use Rattle.tables.specs.declared.walk.FreeLinked.{FreeLinked}
-use Rattle.tables.specs.Views.{partners_of, free_count_of, free_linked, Agrees}
+use Rattle.tables.specs.declared.free_loads.FreeLinked.{FreeLinked}
+use Rattle.tables.specs.Views.{partners_of, free_degree_of, free_linked, Agrees}
 use Rattle.tables.specs.Changes.{Pairing}
 use Rattle.tables.specs.Choices.{FirstFree, Matched}
-use Rattle.tables.specs.Walks.{OverFree}
+use Rattle.tables.specs.FreeLoads.{OverFree}
 
 module _ (before : ℕ → ℕ → Bool) (test : ℕ → Bool) where
   -- what does not pass the test changes nothing
@@ -59,12 +59,12 @@ none_counted (suc n) test e y h = elim (cases_Bool (test n)) [
 pub past_size : (g : Graph) → Simple g → (a y : ℕ) → g.size ≤ y → g.linked a y ≡ false
 past_size g simple a y h = elim (cases_Bool (g.linked a y)) [ inl e ↦ absurd (omega (arith, simple.below y a (simple.symmetric y a ∙ e))) | inr e ↦ e ]
 
--- a walk over the free loads that a is linked to goes on over them, from past the one that it gave
-pub free_step : (t : Tables) (a : ℕ) {v w : Walk FreeLinked} {r : Option ℕ} → OverFree t a v → Walks (λ _. Unit {0}) (λ s. free_linked s.tables.now s.load) v r w →
+-- an iterator over the free loads that a is linked to goes on from past the one that it gave
+pub free_step : (t : Tables) (a : ℕ) {v w : MembersInOrder FreeLinked} {r : Option ℕ} → OverFree t a v → GivesNext (λ _. Unit {0}) (λ s. free_linked s.tables.now s.load) v r w →
     OverFree t a w × (w.from ≡ past v.from r) × NextBelow (free_linked t a) v.from 256 r
 free_step t a {v} {w} {r} over step = (
   rw step.after (record { tables_are = over.tables_are; load_is = over.load_is; end_is = over.end_is }),
-  ap (λ (s : Walk FreeLinked). s.from) step.after,
+  ap (λ (s : MembersInOrder FreeLinked). s.from) step.after,
   subst (λ (n : ℕ). NextBelow (free_linked t a) v.from n r) over.end_is
       (subst (λ (test : ℕ → Bool). NextBelow test v.from v.end r) (ap₂ free_linked over.tables_are over.load_is) (step.next tt)),
 )
@@ -102,7 +102,7 @@ module _ (before : Ranking) (g : Graph) (simple : Simple g) (a : ℕ) (s : Table
   pub matched_none : (r : Option ℕ) → r ≡ None → FirstFree before a s r → Matched before g a s s
   matched_none r none h = record { partners = ap (λ (o : Option ℕ). paired_found a o (partners_of s)) (sym none) ∙ sym (found r h); agrees = k }
 
-  pub count_none_matched : free_count_of s a ≡ 0 → Matched before g a s s
+  pub count_none_matched : free_degree_of s a ≡ 0 → Matched before g a s s
   count_none_matched none =
       let test = free_link g (partners_of s) a in
       let first-none = first_nowhere (before a) g.size test (none_counted g.size test (sym (k.tracks.counts a) ∙ none)) in

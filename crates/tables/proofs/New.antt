@@ -34,9 +34,9 @@ module _ (m n : ℕ) where
     partners = λ i a. (get_all n a blank i).partner;
     agrees = λ k. record {
       tracks = record {
-        degrees = λ a. ap (λ (r : Record). r.links) (get_all n a blank) ∙ sym (count_none k (λ _. false) (λ _ _. refl));
+        degrees = λ a. ap (λ (r : Record). r.degree) (get_all n a blank) ∙ sym (count_none k (λ _. false) (λ _ _. refl));
         sets = no_free;
-        counts = λ a. ap (λ (r : Record). r.free_links) (get_all n a blank) ∙ sym (count_none k (λ _. false) (λ _ _. refl));
+        counts = λ a. ap (λ (r : Record). r.free_degree) (get_all n a blank) ∙ sym (count_none k (λ _. false) (λ _ _. refl));
       };
       beyond = λ a _. ap (λ (r : Record). r.partner) (get_all n a blank);
     };

@@ -1,18 +1,18 @@
 -- What linking, unlinking, pairing and parting two loads does to the tables, and what taking a path
 -- and replacing a partner does.
-use Rattle.std.specs.Prelude.{◌≡◌, ℕ, ◌<◌, Bool, true, false, cond, not, ◌&&◌, Some}
-use Rattle.std.specs.Prelude.{◌==◌, ◌≢◌}
+use Rattle.std.specs.Prelude.{◌≡◌, ℕ, ◌<◌, Bool, true, false, not, ◌&&◌, Some}
+use Rattle.std.specs.Prelude.{◌==◌, ◌≢◌, if◌then◌else◌}
 use Rattle.graph.specs.Graph.{Graph, Simple, is_pair, added, removed}
 use Rattle.graph.specs.Matching.{Free}
 use Rattle.graph.specs.Pairs.{is_free}
 use Rattle.rules.specs.Repair.{paired, freed}
 use Rattle.tables.specs.declared.Tables.{Tables}
-use Rattle.tables.specs.Views.{partners_of, links_of, free_count_of, free_linked, Agrees}
+use Rattle.tables.specs.Views.{partners_of, degree_of, free_degree_of, free_linked, Agrees}
 use Rattle.tables.specs.Steps.{stepped}
 
--- what holds for the graph of a book, where the book came from its making
-abbrev pub OfBook : Type 0 → Graph → (Graph → Type 0) → Type 0
-OfBook made g Holds = made → Simple g → Holds g
+-- what holds for the graph of links that came from their making
+abbrev pub OfLinks : Type 0 → Graph → (Graph → Type 0) → Type 0
+OfLinks made g Holds = made → Simple g → Holds g
 
 -- with the link of a and b, or without it
 abbrev pub relinked : Bool → Graph → ℕ → ℕ → Graph
@@ -21,17 +21,17 @@ relinked false g a b = removed g a b
 
 -- one up or down where c says so
 abbrev pub step_if : Bool → Bool → ℕ → ℕ
-step_if c up n = cond c (stepped up n) n
+step_if c up n = if c then stepped up n else n
 
 -- on any tables: a and b have one link more or fewer, and each has the other in its set, or no
 -- longer, if the other is free
 pub record Relinked (on : Bool) (a b : ℕ) (s t : Tables) : Type 0 where
-  pub degrees : (y : ℕ) → links_of t y ≡ step_if (b == y) on (step_if (a == y) on (links_of s y))
-  pub counts : (y : ℕ) → free_count_of t y
+  pub degrees : (y : ℕ) → degree_of t y ≡ step_if (b == y) on (step_if (a == y) on (degree_of s y))
+  pub counts : (y : ℕ) → free_degree_of t y
       ≡ step_if (b == y && is_free (partners_of s) a) on
-      (step_if (a == y && is_free (partners_of s) b) on (free_count_of s y))
+      (step_if (a == y && is_free (partners_of s) b) on (free_degree_of s y))
   pub sets : (y z : ℕ) → free_linked t y z
-      ≡ cond (is_pair a b y z && is_free (partners_of s) z) on (free_linked s y z)
+      ≡ (if is_pair a b y z && is_free (partners_of s) z then on else free_linked s y z)
 
 -- the link of a and b is recorded, or no longer: tables that agreed with a graph do with the graph
 -- that has gained the link, or has lost it
@@ -45,12 +45,12 @@ pub record Relinking (on : Bool) (a b : ℕ) (s t : Tables) : Type 0 where
 -- linked to b that b is
 pub record Told (g : Graph) (a : ℕ) (free-a : Bool) (b : ℕ) (free-b : Bool)
     (s t : Tables) : Type 0 where
-  pub degrees : (y : ℕ) → links_of t y ≡ links_of s y
-  pub counts : (y : ℕ) → free_count_of t y
-      ≡ step_if (g.linked b y) free-b (step_if (g.linked a y) free-a (free_count_of s y))
+  pub degrees : (y : ℕ) → degree_of t y ≡ degree_of s y
+  pub counts : (y : ℕ) → free_degree_of t y
+      ≡ step_if (g.linked b y) free-b (step_if (g.linked a y) free-a (free_degree_of s y))
   pub sets : (y z : ℕ) → free_linked t y z
-      ≡ cond (g.linked b y && b == z) free-b
-      (cond (g.linked a y && a == z) free-a (free_linked s y z))
+      ≡ (if g.linked b y && b == z then free-b
+      else (if g.linked a y && a == z then free-a else free_linked s y z))
 
 -- a and b, free before, become partners
 pub record Pairing (g : Graph) (a b : ℕ) (s t : Tables) : Type 0 where

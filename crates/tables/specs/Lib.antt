@@ -2,4 +2,4 @@ pub mod Views
 pub mod Steps
 pub mod Changes
 pub mod Choices
-pub mod Walks
+pub mod FreeLoads

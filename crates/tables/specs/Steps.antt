@@ -1,9 +1,9 @@
 -- The small steps by which the tables are changed.
-use Rattle.std.specs.Prelude.{◌≡◌, ℕ, ◌+◌, ◌-◌, min, Bool, true, false, cond, ◌&&◌, ◌==◌}
-use Rattle.std.specs.Prelude.{Option}
+use Rattle.std.specs.Prelude.{◌≡◌, ℕ, ◌+◌, ◌-◌, min, Bool, true, false, ◌&&◌, ◌==◌}
+use Rattle.std.specs.Prelude.{Option, if◌then◌else◌}
 use Rattle.graph.specs.Matching.{Partners}
 use Rattle.tables.specs.declared.Tables.{Tables}
-use Rattle.tables.specs.Views.{partners_of, links_of, free_count_of, free_linked}
+use Rattle.tables.specs.Views.{partners_of, degree_of, free_degree_of, free_linked}
 
 -- a number of 16 bits, one up or down where it can
 abbrev pub stepped : Bool → ℕ → ℕ
@@ -14,19 +14,20 @@ stepped false n = n - 1
 -- that pass `told`, or taken out of them
 pub record Stepped (on : Bool) (linked told : ℕ → Bool) (b : ℕ) (s t : Tables) : Type 0 where
   pub partners : (y : ℕ) → partners_of t y ≡ partners_of s y
-  pub degrees : (y : ℕ) → links_of t y
-      ≡ cond (linked y) (stepped on (links_of s y)) (links_of s y)
-  pub counts : (y : ℕ) → free_count_of t y
-      ≡ cond (told y) (stepped on (free_count_of s y)) (free_count_of s y)
-  pub sets : (y z : ℕ) → free_linked t y z ≡ cond (told y && b == z) on (free_linked s y z)
+  pub degrees : (y : ℕ) → degree_of t y
+      ≡ (if linked y then stepped on (degree_of s y) else degree_of s y)
+  pub counts : (y : ℕ) → free_degree_of t y
+      ≡ (if told y then stepped on (free_degree_of s y) else free_degree_of s y)
+  pub sets : (y z : ℕ) → free_linked t y z
+      ≡ (if told y && b == z then on else free_linked s y z)
 
 -- a has the partner o, or none
 abbrev pub with_partner : ℕ → Option ℕ → Partners → Partners
-with_partner a o p x = cond (x == a) o (p x)
+with_partner a o p x = if x == a then o else p x
 
 -- the partners p are written, and nothing else
 pub record Written (p : Partners) (s t : Tables) : Type 0 where
   pub partners : (y : ℕ) → partners_of t y ≡ p y
-  pub degrees : (y : ℕ) → links_of t y ≡ links_of s y
-  pub counts : (y : ℕ) → free_count_of t y ≡ free_count_of s y
+  pub degrees : (y : ℕ) → degree_of t y ≡ degree_of s y
+  pub counts : (y : ℕ) → free_degree_of t y ≡ free_degree_of s y
   pub sets : (y z : ℕ) → free_linked t y z ≡ free_linked s y z

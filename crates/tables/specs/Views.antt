@@ -1,6 +1,6 @@
 -- What the tables say of each load, and when they agree with a graph.
 use Rattle.std.specs.Prelude.{◌≡◌, ℕ, ◌≤◌, Bool, ◌&&◌, [], None, slice_index_or}
-use Rattle.graph.specs.Graph.{Graph, count, degree, edgeless}
+use Rattle.graph.specs.Graph.{Graph, count, degree, no_links}
 use Rattle.graph.specs.Matching.{Partners}
 use Rattle.graph.specs.Pairs.{has_partner, is_free}
 use Rattle.bits.specs.Words.{member}
@@ -14,7 +14,7 @@ has s b = member s.words b
 
 -- what is kept of a load that is free and has no links, as of a number past the tables
 abbrev pub blank : Record
-blank = record { partner = None; links = 0; free_links = 0 }
+blank = record { partner = None; degree = 0; free_degree = 0 }
 
 abbrev pub empty : LoadSet
 empty = record { words = [] }
@@ -27,11 +27,11 @@ abbrev pub partners_of : Tables → Partners
 partners_of t a = (record_of t a).partner
 
 -- how many links are recorded of a load, and how many to free loads
-abbrev pub links_of : Tables → ℕ → ℕ
-links_of t a = (record_of t a).links
+abbrev pub degree_of : Tables → ℕ → ℕ
+degree_of t a = (record_of t a).degree
 
-abbrev pub free_count_of : Tables → ℕ → ℕ
-free_count_of t a = (record_of t a).free_links
+abbrev pub free_degree_of : Tables → ℕ → ℕ
+free_degree_of t a = (record_of t a).free_degree
 
 -- b is recorded as a free load that a is linked to
 abbrev pub free_linked : Tables → ℕ → ℕ → Bool
@@ -43,9 +43,9 @@ matched_of t = count 256 (has_partner (partners_of t))
 
 -- links and free links are those of the graph g, where `free` says which loads are free
 pub record Tracks (g : Graph) (free : ℕ → Bool) (t : Tables) : Type 0 where
-  pub degrees : (a : ℕ) → links_of t a ≡ degree g a
+  pub degrees : (a : ℕ) → degree_of t a ≡ degree g a
   pub sets : (a b : ℕ) → free_linked t a b ≡ (g.linked a b && free b)
-  pub counts : (a : ℕ) → free_count_of t a ≡ count g.size (λ b. g.linked a b && free b)
+  pub counts : (a : ℕ) → free_degree_of t a ≡ count g.size (λ b. g.linked a b && free b)
 
 -- the tables agree with the graph g: a load is free if they record no partner of it, and past the
 -- size none has one
@@ -56,4 +56,4 @@ pub record Agrees (g : Graph) (t : Tables) : Type 0 where
 -- tables of loads that are free and have no links, however many there are
 pub record New (t : Tables) : Type 0 where
   pub partners : partners_of t ≡ (λ _. None)
-  pub agrees : (n : ℕ) → Agrees (edgeless n) t
+  pub agrees : (n : ℕ) → Agrees (no_links n) t

@@ -5,12 +5,12 @@ ghost use Rattle.graph.specs.Pairs.{is_free};
 ghost use Rattle.rules.specs.Repair.{paired};
 ghost use Rattle.tables.specs.Views.{partners_of};
 ghost use Rattle.tables.specs.Steps.{stepped, Stepped, with_partner, Written};
-ghost use Rattle.tables.specs.Changes.{OfBook, Relinking, Pairing, Parting};
+ghost use Rattle.tables.specs.Changes.{OfLinks, Relinking, Pairing, Parting};
 ghost use Rattle.tables.specs.Changes.{Exchanging, Replacing};
 
 use crate::Tables;
 use links::Links;
-use links::walk::linked_loads;
+use links::members::linked_loads;
 
 // One more or one less.
 fn step(n: u16, up: bool) -> u16
@@ -29,7 +29,7 @@ impl Tables {
         ensures { Stepped on (λ _. false) (nat_eq x) a self.old self.new }
     {
         let x = usize::from(x);
-        self.records[x].free_links = step(self.records[x].free_links, on);
+        self.records[x].free_degree = step(self.records[x].free_degree, on);
         self.free[x].put(a, on);
     }
 
@@ -38,7 +38,7 @@ impl Tables {
         ensures { (b : ℕ) → Stepped on (nat_eq a) (λ _. false) b self.old self.new }
     {
         let a = usize::from(a);
-        self.records[a].links = step(self.records[a].links, on);
+        self.records[a].degree = step(self.records[a].degree, on);
     }
 
     // a gets or loses a link to b.
@@ -87,7 +87,7 @@ impl Tables {
 
     // Each load that is linked to a learns that a is now free, or no longer.
     fn tell_linked<L: Links>(&mut self, links: &L, a: u8, on: bool)
-        ensures { OfBook (L.Links.made links.now) (L.Links.graph links.now)
+        ensures { OfLinks (L.Links.made links.now) (L.Links.graph links.now)
             (λ g. Stepped on (λ _. false) (g.linked a) a self.old self.new) }
     {
         for x in linked_loads(links, usize::from(a), 256) {
@@ -113,7 +113,7 @@ impl Tables {
     /// Makes partners of `a` and `b`, which are free: each load linked to one of them learns that
     /// it no longer is. Does nothing where a number is not below 256. Looks at the links of both.
     pub fn pair<L: Links>(&mut self, links: &L, a: usize, b: usize)
-        ensures changed { OfBook (L.Links.made links.now) (L.Links.graph links.now)
+        ensures changed { OfLinks (L.Links.made links.now) (L.Links.graph links.now)
             (λ g. Pairing g a b self.old self.new) }
         ensures ignored { (256 ≤ a) ⊎ (256 ≤ b) → self.new ≡ self.old }
     {
@@ -127,7 +127,7 @@ impl Tables {
     /// Parts `a` and `b`, which are partners: each load linked to one of them learns that it is now
     /// free. Does nothing where a number is not below 256. Looks at the links of both.
     pub fn part<L: Links>(&mut self, links: &L, a: usize, b: usize)
-        ensures changed { OfBook (L.Links.made links.now) (L.Links.graph links.now)
+        ensures changed { OfLinks (L.Links.made links.now) (L.Links.graph links.now)
             (λ g. Parting g a b self.old self.new) }
         ensures ignored { (256 ≤ a) ⊎ (256 ≤ b) → self.new ≡ self.old }
     {
@@ -144,7 +144,7 @@ impl Tables {
     /// `a` or `z` learn of it, since `x` and `y` have a partner as before. Does nothing where a
     /// number is not below 256. Looks at the links of `a` and `z`.
     pub fn exchange<L: Links>(&mut self, links: &L, a: usize, x: usize, y: usize, z: usize)
-        ensures changed { OfBook (L.Links.made links.now) (L.Links.graph links.now)
+        ensures changed { OfLinks (L.Links.made links.now) (L.Links.graph links.now)
             (λ g. Exchanging g a x y z self.old self.new) }
         ensures ignored { (256 ≤ a) ⊎ (256 ≤ x) ⊎ (256 ≤ y) ⊎ (256 ≤ z) → self.new ≡ self.old }
     {
@@ -166,7 +166,7 @@ impl Tables {
     /// has a partner as before. Does nothing where a number is not below 256. Looks at the links of
     /// `a` and `y`.
     pub fn replace<L: Links>(&mut self, links: &L, a: usize, x: usize, y: usize)
-        ensures changed { OfBook (L.Links.made links.now) (L.Links.graph links.now)
+        ensures changed { OfLinks (L.Links.made links.now) (L.Links.graph links.now)
             (λ g. Replacing g a x y self.old self.new) }
         ensures ignored { (256 ≤ a) ⊎ (256 ≤ x) ⊎ (256 ≤ y) → self.new ≡ self.old }
     {

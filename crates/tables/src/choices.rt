@@ -2,7 +2,7 @@
 ghost use Rattle.std.specs.Prelude.{◌≡◌, false};
 ghost use Rattle.graph.specs.Pairs.{is_free};
 ghost use Rattle.tables.specs.Views.{partners_of, Agrees};
-ghost use Rattle.tables.specs.Changes.{OfBook};
+ghost use Rattle.tables.specs.Changes.{OfLinks};
 ghost use Rattle.tables.specs.Choices.{FirstFree, Matched};
 
 use crate::Tables;
@@ -28,13 +28,13 @@ impl Tables {
     /// Looks at the free loads linked to `a` as `first_free` does, and where there are any at the
     /// links of the two new partners.
     pub fn match_free<L: Links, R: Ranking>(&mut self, links: &L, ranking: &R, a: usize)
-        ensures matched { OfBook (L.Links.made links.now) (L.Links.graph links.now)
+        ensures matched { OfLinks (L.Links.made links.now) (L.Links.graph links.now)
             (λ g. Agrees g self.old
             → Matched (R.Ranking.before ranking.now) g a self.old self.new) }
         ensures kept { is_free (partners_of self.old) a ≡ false → self.new ≡ self.old }
     {
         if self.is_free(a)
-            && self.free_links(a) > 0
+            && self.free_degree(a) > 0
             && let Some(b) = self.first_free(ranking, a)
         {
             self.pair(links, a, b);

@@ -6,20 +6,21 @@ mod changes;
 mod choices;
 mod load_set;
 mod questions;
-/// The walk over the free loads that a load is linked to.
-pub mod walk;
+/// The free loads that a load is linked to, in rising order.
+pub mod free_loads;
 
-/// What is kept of a load: its partner, how many links it has, and how many of them lead to free
-/// loads.
-#[derive(Clone, Copy)]
+/// What is kept of a load: its partner, if it has one, its degree, which is how many links it has,
+/// and its free degree, which is how many of them lead to free loads. On a board both are at most
+/// 255.
+#[derive(Clone, Copy, Debug)]
 pub struct Record {
     partner: Option<u8>,
-    links: u16,
-    free_links: u16,
+    degree: u16,
+    free_degree: u16,
 }
 
 /// A set of loads below 256, in four words: word `b / 64` has the bit of load `b`, at `b mod 64`.
-#[derive(Clone, Copy)]
+#[derive(Clone, Copy, Debug)]
 pub struct LoadSet {
     words: [u64; 4],
 }
@@ -27,11 +28,12 @@ pub struct LoadSet {
 /// A record for each of 256 loads, and for each the set of the free loads that it is linked to.
 ///
 /// The tables do not hold the links. They follow them: `link` and `unlink` are told of each link,
-/// and the calls that change partners are lent the links and walk over those of the loads that
+/// and the calls that change partners are lent the links and go over those of the loads that
 /// become free or are no longer. A question about one load then costs a look at its record or its
 /// set. A number that is not below 256 is free and has no links; a call that is to change one does
-/// nothing.
-#[derive(Drop)]
+/// nothing. No call refuses. Tables that are told of something else than the links stay safe: then
+/// their answers say what was told, and no more.
+#[derive(Debug, Drop)]
 pub struct Tables {
     records: [Record; 256],
     // for each load, the free loads that it is linked to

@@ -2,7 +2,7 @@
 ghost use Rattle.std.specs.Prelude.{◌≡◌, ◌<◌, IfSome};
 ghost use Rattle.graph.specs.Graph.{Next};
 ghost use Rattle.graph.specs.Pairs.{is_free};
-ghost use Rattle.tables.specs.Views.{record_of, partners_of, links_of, free_count_of};
+ghost use Rattle.tables.specs.Views.{record_of, partners_of, degree_of, free_degree_of};
 ghost use Rattle.tables.specs.Views.{free_linked, matched_of, New};
 
 use crate::{LoadSet, Record, Tables};
@@ -10,8 +10,8 @@ use crate::{LoadSet, Record, Tables};
 // The record of a load that is free and has no links.
 const BLANK: Record = Record {
     partner: None,
-    links: 0,
-    free_links: 0,
+    degree: 0,
+    free_degree: 0,
 };
 
 impl Tables {
@@ -49,7 +49,7 @@ impl Tables {
 
     /// The number of loads that have a partner, 0 to 256. It is counted anew at each call: looks at
     /// each of the 256 records.
-    pub fn matched(&self) -> usize
+    pub fn matched_count(&self) -> usize
         ensures { result ≡ matched_of self.now }
     {
         self.records
@@ -59,18 +59,18 @@ impl Tables {
     }
 
     /// The number of links of `a`; 0 where `a` is not below 256. Looks at one record.
-    pub fn links(&self, a: usize) -> usize
-        ensures { result ≡ links_of self.now a }
+    pub fn degree(&self, a: usize) -> usize
+        ensures { result ≡ degree_of self.now a }
     {
-        usize::from(self.record(a).links)
+        usize::from(self.record(a).degree)
     }
 
     /// The number of free loads that `a` is linked to; 0 where `a` is not below 256. Looks at one
     /// record.
-    pub fn free_links(&self, a: usize) -> usize
-        ensures { result ≡ free_count_of self.now a }
+    pub fn free_degree(&self, a: usize) -> usize
+        ensures { result ≡ free_degree_of self.now a }
     {
-        usize::from(self.record(a).free_links)
+        usize::from(self.record(a).free_degree)
     }
 
     /// The smallest free load at or above `from` that `a` is linked to, if there is one; none where

@@ -1,8 +1,9 @@
 -- The law of runs, at every moment of the play of an input.
 use Rattle.std.proofs.Common.{ℕ, zero, suc, List, ◌==◌, sym, refl, subst, lit≤}
 use Rattle.std.proofs.lemmas.Bool.{cond_both}
-use Rattle.graph.specs.Graph.{edgeless}
-use Rattle.rules.specs.Boards.{by_number, fresh, fresh_ledger}
+use Rattle.graph.specs.Graph.{no_links}
+use Rattle.links.specs.Books.{fresh_ledger}
+use Rattle.rules.specs.Boards.{by_number, fresh}
 use Rattle.rules.specs.Calls.{Position}
 use Rattle.rules.specs.Laws.{Run, none, more, Moment}
 use Rattle.rules.specs.Repair.{Ranking}
@@ -31,7 +32,7 @@ module _ (before : Ranking) (first : Position) where
       (and_then_run place y (played n before y.position stream y.place) one (played_run n y.position stream y.place one))
 
 start_law : (x : Position) → Run by_number (fresh 256 2048) x → Moment by_number (fresh 256 2048) x
-start_law = law_of_runs by_number (edgeless 256) (fresh_ledger 256 2048) (fresh_proper 256 2048 (lit≤ tt) (lit≤ tt))
+start_law = law_of_runs by_number (no_links 256) (fresh_ledger 256 255 2048) (fresh_proper 256 2048 (lit≤ tt) (lit≤ tt))
 
 moment_law : (input : List ℕ) (n : ℕ) → Moment by_number (fresh 256 2048) (moment input n)
 unfolding start

@@ -3,12 +3,13 @@ use Rattle.std.proofs.Common.{◌≡◌, ℕ, ◌*◌, List, [], ◌++◌, lengt
 use Rattle.std.proofs.lemmas.List.{take_at}
 use Rattle.std.proofs.lemmas.Bool.{cond-false, le-ltb}
 use Rattle.std.proofs.lemmas.Option.{none-some}
-use Rattle.graph.specs.Graph.{Graph, edgeless}
+use Rattle.graph.specs.Graph.{Graph, no_links}
 use Rattle.graph.specs.Pairs.{has_partner}
 use Rattle.graph.proofs.Counts.{count_le}
 use Rattle.links.specs.Books.{Ledger, Stands as BookStands}
 use Rattle.links.specs.Refusals.{Reason}
-use Rattle.rules.specs.Boards.{by_number, fresh_ledger}
+use Rattle.links.specs.Books.{fresh_ledger}
+use Rattle.rules.specs.Boards.{by_number}
 use Rattle.rules.specs.Calls.{Position, opened}
 use Rattle.rules.specs.Repair.{Ranking}
 use Rattle.tables.specs.Views.{partners_of}
@@ -33,10 +34,10 @@ pairs_fit {B} {R} {graph} {made} {ledger} s out e stood long =
     λ refused. none-some e (sym (cond-false _ _ _ (le-ltb (length out) (8 * _) (omega arith))) ∙ refused)
 
 pub started : {B R : Type 0} {graph : B → Graph} {made : B → Type 0} {ledger : B → Ledger} {before : R → Ranking} {book : B} {ranking : R} {r : Board B R} →
-    before ranking ≡ by_number → BookStands graph made ledger book (edgeless 256) (fresh_ledger 256 2048) → Opens graph made ledger before book ranking r → position graph ledger r ≡ start
+    before ranking ≡ by_number → BookStands graph made ledger book (no_links 256) (fresh_ledger 256 255 2048) → Opens graph made ledger before book ranking r → position graph ledger r ≡ start
 unfolding start
 started {before = before} {ranking = ranking} order fresh opens =
-    opens.position_is fresh.still_made ∙ ap₂ (opened (before ranking)) fresh.graph_is fresh.ledger_is ∙ ap (λ (o : Ranking). opened o (edgeless 256) (fresh_ledger 256 2048)) order
+    opens.position_is fresh.still_made ∙ ap₂ (opened (before ranking)) fresh.graph_is fresh.ledger_is ∙ ap (λ (o : Ranking). opened o (no_links 256) (fresh_ledger 256 255 2048)) order
 
 pub transcribed : {B R : Type 0} {graph : B → Graph} {made : B → Type 0} {ledger : B → Ledger} {t : Board B R} (x : Position) (input from text all : List ℕ) → x ≡ start → from ≡ [] →
     Plays graph made ledger (played (length input) by_number x input 0) from t text → all ≡ text ++ lines_of (position graph ledger t) → all ≡ transcript input

@@ -1,6 +1,6 @@
 -- Every byte that is answered to a stream: the line of each step, and then that of each pair.
-use Rattle.std.specs.Prelude.{◌≡◌, ℕ, zero, suc, ◌+◌, cond, List, [], ◌++◌, length, None, Option}
-use Rattle.std.specs.Prelude.{◌==◌}
+use Rattle.std.specs.Prelude.{◌≡◌, ℕ, zero, suc, ◌+◌, List, [], ◌++◌, length, None, Option}
+use Rattle.std.specs.Prelude.{◌==◌, if◌then◌else◌}
 use Rattle.links.specs.Refusals.{Reason}
 use Rattle.commands.specs.Commands.{unless_short}
 use Rattle.rules.specs.Boards.{by_number, fresh}
@@ -18,8 +18,8 @@ pub record Played : Type 0 where
 -- a step y from a place, and then the rest, unless the place stays
 abbrev pub and_then : ℕ → Step → Played → Played
 and_then place y rest =
-    cond (y.place == place) (record { position = y.position; text = y.line })
-    (record { position = rest.position; text = y.line ++ rest.text })
+    if y.place == place then record { position = y.position; text = y.line }
+    else record { position = rest.position; text = y.line ++ rest.text }
 
 -- steps from a place on until the place stays, and at most n
 unfoldable pub played : ℕ → Ranking → Position → List ℕ → ℕ → Played

@@ -11,7 +11,7 @@ ghost use Rattle.transcript.specs.Words.{failure_text};
 ghost use Rattle.transcript.specs.Worked.{WorkedStream};
 
 use board::Board;
-use books::bit_matrix::BitMatrix;
+use bit_matrix::BitMatrix;
 use links::{Book, Refused};
 use ranking::{ByNumber, Ranking};
 use replies::{LONGEST_LINE, LONGEST_PAIR};
@@ -23,10 +23,12 @@ use stream::{list_pairs, step};
 // 256 loads have at most 128 pairs.
 const LONGEST_LIST: usize = 128 * LONGEST_PAIR;
 
-/// Why there is no transcript: the input is refused, or there is no memory for the text.
+/// Why there is no transcript.
 #[derive(Clone, Copy, PartialEq, Eq, Debug)]
 pub enum Failure {
+    /// The input is refused.
     Input(Refused),
+    /// There is no memory left for the text.
     Memory,
 }
 
@@ -109,8 +111,16 @@ fn push_pairs<B: Book, R: Ranking>(board: &Board<B, R>, text: &mut Vec<u8>) -> R
     Ok(())
 }
 
-/// Plays the input on a fresh board of 256 loads, with at most 2,048 links and the lower number
-/// first.
+/// Every byte that is answered to an input: it is played on a fresh board of 256 loads, with at
+/// most 2,048 links and the lower number first. The text has the line of each command, up to the
+/// end or to the first place where the bytes are no command, and then the line of each pair.
+///
+/// Fails with `Input` of 3 (stream) where the input has more than 65,536 bytes, and with `Memory`
+/// where the text cannot grow. No other reason fails it: what the board refuses is told in the
+/// text.
+///
+/// Costs a call of the board for each command and a line for each pair; the board and its book have
+/// their memory in the stack of the call.
 #[tactic(auto, using(crate::proofs::Playing::played_out))]
 pub fn transcript(heap: Global, input: &[u8]) -> Result<Vec<u8>, Failure>
     ensures ends { Ends (transcribing input.now) result (λ v. v.items ≡ transcript input.now) }

@@ -5,15 +5,15 @@ use crate::setting::{BOOKS, BookKind, Classes, Filters, Kind, RANKINGS, RankingK
 use crate::trial::Trial;
 use anyhow::{Context, Result};
 use board::Board;
-use books::bit_matrix::BitMatrix;
-use filter::ClassFilter;
+use bit_matrix::BitMatrix;
+use class_filter::ClassFilter;
 use links::Book;
 use ranking::detour::ByDetour;
 use ranking::{ByNumber, Ranking};
 use reference::calls::{Answer, Call};
 use reference::pairing::Pairing;
 use reference::plain_book::PlainBook;
-use rows::SortedRows;
+use sorted_rows::SortedRows;
 
 // Makes a call on a board.
 fn make<B: Book, R: Ranking>(board: &mut Board<B, R>, call: Call) -> Answer {

@@ -5,11 +5,11 @@ use crate::comparing::{same, same_book, same_links};
 use crate::random::Random;
 use crate::trial::Trial;
 use anyhow::{Context, Result};
-use books::bit_matrix::BitMatrix;
+use bit_matrix::BitMatrix;
 use link_list::{Entry, LinkList};
 use reference::makings::{list, matrix, rows};
 use reference::plain_book::PlainBook;
-use rows::SortedRows;
+use sorted_rows::SortedRows;
 
 const SIZES: [usize; 12] = [0, 1, 2, 3, 63, 64, 65, 128, 255, 256, 257, usize::MAX];
 

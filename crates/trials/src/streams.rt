@@ -4,7 +4,7 @@ use crate::random::Random;
 use crate::trial::Trial;
 use anyhow::{Context, Result};
 use board::Board;
-use books::bit_matrix::BitMatrix;
+use bit_matrix::BitMatrix;
 use commands::{Command, read};
 use links::Book;
 use ranking::{ByNumber, Ranking};

@@ -4,6 +4,7 @@
 
 mod morning;
 mod parts;
+mod report;
 
 use std::io;
 

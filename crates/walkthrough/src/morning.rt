@@ -1,13 +1,13 @@
 // A morning at an exchange, played on a board: what each call answers, and who is paired after it.
 
+use crate::report::{answer, judge};
 use audit::NO_PARTNER;
+use bit_matrix::BitMatrix;
 use board::Board;
-use books::bit_matrix::BitMatrix;
 use commands::Command;
 use links::{Book, Refused};
 use ranking::{ByNumber, Ranking};
 use std::{array, io};
-use telling::{answer, judge};
 
 const SIZE: usize = 8;
 
@@ -76,7 +76,7 @@ pub fn play(rt: &impl Print) -> io::Result<()> {
         answer(rt, command, make(&mut board, command))?;
         list_partners(rt, &board)?;
     }
-    println!(rt; "{} pairs are left.", board.pairs())?;
+    println!(rt; "{} pairs are left.", board.pair_count())?;
     println!(rt; "The audit of these pairs:")?;
     judge(rt, board.book(), &claims(&board))
 }

@@ -1,16 +1,16 @@
 // A bit matrix, rows, a filter, the audit and the rankings at work.
 
+use crate::report::{answer, judge};
 use audit::NO_PARTNER;
-use books::bit_matrix::BitMatrix;
+use bit_matrix::BitMatrix;
+use class_filter::ClassFilter;
 use commands::Command;
-use filter::ClassFilter;
-use links::walk::linked_loads;
+use links::members::linked_loads;
 use links::{Book, Links};
 use ranking::detour::{ByDetour, Place};
 use ranking::{ByNumber, Ranking};
-use rows::SortedRows;
+use sorted_rows::SortedRows;
 use std::io;
-use telling::{answer, judge};
 
 // Links the two loads of each pair, one pair after the other.
 fn add<B: Book>(rt: &impl Print, book: &mut B, pairs: &[(u16, u16)]) -> io::Result<()> {
@@ -35,7 +35,9 @@ fn remove<B: Book>(rt: &impl Print, book: &mut B, a: u16, b: u16) -> io::Result<
 // The loads that each load below n is linked to.
 fn list_links<L: Links>(rt: &impl Print, links: &L, n: usize) -> io::Result<()> {
     for a in 0..n {
-        print!(rt; "load {a} has {} links:", links.degree(a))?;
+        let degree = links.degree(a);
+        let noun = if degree == 1 { "link" } else { "links" };
+        print!(rt; "load {a} has {degree} {noun}:")?;
         for b in linked_loads(links, a, n) {
             print!(rt; " {b}")?;
         }
@@ -84,6 +86,18 @@ fn rows_and_filter(rt: &impl Print) -> io::Result<()> {
     add(rt, &mut filtered, &[(1, 2)])
 }
 
+// A row that is full, and a book that is full.
+fn full(rt: &impl Print) -> io::Result<()> {
+    println!(rt; "Rows of one link each, for three loads, and at most three links.")?;
+    let mut numbers = [0; 6];
+    let mut rows = SortedRows::new(3, 1, 3, &mut numbers);
+    add(rt, &mut rows, &[(0, 1), (0, 2)])?;
+    println!(rt; "A bit matrix for four loads and at most one link.")?;
+    let mut words = [0; 4];
+    let mut matrix = BitMatrix::new(4, 1, &mut words);
+    add(rt, &mut matrix, &[(0, 1), (2, 3)])
+}
+
 fn compare<R: Ranking>(
     rt: &impl Print,
     how: &str,
@@ -119,6 +133,7 @@ fn rankings(rt: &impl Print) -> io::Result<()> {
 /// Prints what books, rows, a filter, rankings and audits answer.
 pub fn show(rt: &impl Print) -> io::Result<()> {
     six_loads(rt)?;
+    full(rt)?;
     rows_and_filter(rt)?;
     rankings(rt)
 }

@@ -1,5 +1,5 @@
 use Rattle.std.proofs.Common.{refl}
-use Rattle.replies.specs.Digits.{digits}
+use Rattle.std.specs.Fmt.{digits}
 use Rattle.replies.proofs.worked_lines.Goals as goal
 
 pub returns : goal.returns

@@ -50,7 +50,7 @@ returns g c =
     let size = book_size g.B.Links.graph g.B.Links.made c.book.result.now s.book c.book.ensures c.size.result c.size.ensures.value stood.book_made in
     omega (arith, size, stood.sound.simple.small, c.loop-a-test.false, c.loop-a.auto.a-end) in
     let listed : stands → Listed graph.size p c.loop-a.lines k = λ stood. subst (λ (n : ℕ). Listed n p c.loop-a.lines k) (all stood) (c.loop-a.invariant.listed stood) in
-    let pairs : stands → c.pairs.result ≡ pairs graph.size p = λ stood. (c.pairs.ensures.partners stood).value in
+    let pairs : stands → c.pair_count.result ≡ pairs graph.size p = λ stood. (c.pair_count.ensures.partners stood).value in
     lists_written stands (position g.B.Links.graph g.B.Book.ledger s) (take k c.loop-a.lines) c.args.out.now c.write_start.new.out c.write_start.result c.write_start.ensures
     (λ stood. (listed stood).lines_are)
     (λ stood. omega (arith, pairs stood))

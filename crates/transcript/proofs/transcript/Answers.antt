@@ -1,6 +1,6 @@
 use Rattle.std.proofs.Common.{vec_items, refl}
 use Rattle.board.specs.Boards.{position}
-use Rattle.books.specs.Matrix.{matrix_graph, matrix_ledger}
+use Rattle.bit_matrix.specs.Matrix.{matrix_graph, matrix_ledger}
 use Rattle.transcript.proofs.Law.{keeps_law}
 use Rattle.transcript.proofs.Writing.{started, transcribed}
 use Rattle.transcript.proofs.transcript.Goals as goal

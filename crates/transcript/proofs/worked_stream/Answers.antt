@@ -1,5 +1,5 @@
 use Rattle.std.proofs.Common.{refl}
-use Rattle.replies.specs.Digits.{digits}
+use Rattle.std.specs.Fmt.{digits}
 use Rattle.transcript.specs.Transcript.{played}
 use Rattle.transcript.proofs.worked_stream.Goals as goal
 

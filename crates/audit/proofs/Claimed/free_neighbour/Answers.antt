@@ -1,10 +1,10 @@
 use Rattle.std.proofs.Common.{ℕ, ◌&&◌, eqb, length, not, ◌∙◌, rules, tests}
 use Rattle.std.proofs.lemmas.Iterator.Search.{find_from_yields_List}
-use Rattle.links.proofs.Walks.{YieldsList-from_linked_loads}
+use Rattle.links.proofs.InOrder.{YieldsList-from_linked_loads}
 use Rattle.graph.specs.Pairs.{is_free}
 use Rattle.audit.specs.Claims.{claimed}
 use Rattle.audit.proofs.Lowest.{lowest_member}
-use Rattle.audit.proofs.Paths.{ends_tested}
+use Rattle.audit.proofs.Shapes.{ends_tested}
 use Rattle.audit.proofs.Claimed.free_neighbour.Goals as goal
 
 pub returns : goal.returns

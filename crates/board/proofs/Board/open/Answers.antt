@@ -2,7 +2,7 @@ use Rattle.std.proofs.Common.{◌≡◌, ℕ, ◌≤◌, List, take, subst, refl
 use Rattle.rules.specs.Repair.{repair}
 use Rattle.rules.specs.Threshold.{threshold}
 use Rattle.repair.specs.Holds.{Changes}
-use Rattle.repair.proofs.Book.{on_book}
+use Rattle.board.proofs.Repairing.{repaired_by_limit}
 use Rattle.board.proofs.Opened.{opens, opened_holds}
 use Rattle.board.proofs.Numbers.{numbers_below}
 use Rattle.board.proofs.Runs.{law}
@@ -25,11 +25,10 @@ returns g c =
     let fits : c.min-size.result ≤ 256 = omega arith in
     let numbers = numbers_below 256 c.min-size.result loads items.long fits (λ k h. let (p, q, called) = items.at k 0 h in search rules) in
     let parts = c.repair_of.ensures in
-    let listed = on_book g.B.Links.made g.B.Links.graph g.R.Ranking.before (λ before t graph. Changes graph (repair before t graph (take c.min-size.result loads)) c.recorded-tables.result c.repair.new.tables)
-    c.repair_of.result book c.args.ranking c.repair_of.result.limit parts.links parts.ranking refl c.repair.ensures in
-    let change = subst (λ (l : List ℕ). Changes graph (repair before (threshold c.repair_of.result.limit) graph l) c.recorded-tables.result c.repair.new.tables) numbers (listed made simple) in
-    opened_holds before graph ledger (threshold c.repair_of.result.limit) c.min-size.result
-    (ap threshold (parts.limit made)) same_size
+    let listed = repaired_by_limit g.B.Links.graph g.B.Links.made g.B.Book.ledger g.R.Ranking.before c.repair_of.result book c.args.ranking (take c.min-size.result loads) c.recorded-tables.result c.repair.new.tables
+    parts.links parts.ranking parts.limit c.repair.ensures in
+    let change = subst (λ (l : List ℕ). Changes graph (repair before (threshold ledger.limit) graph l) c.recorded-tables.result c.repair.new.tables) numbers (listed made simple) in
+    opened_holds before graph ledger c.min-size.result same_size
     (c.recorded-tables.ensures made simple same_size) change) in
     record {
       opens = opening;

@@ -1,8 +1,5 @@
-use Rattle.std.proofs.Common.{[], ◌∷◌, sym, refl, ap}
-use Rattle.rules.specs.Repair.{repair}
-use Rattle.rules.specs.Threshold.{threshold}
-use Rattle.repair.specs.Holds.{Changes}
-use Rattle.repair.proofs.Book.{on_book}
+use Rattle.std.proofs.Common.{[], ◌∷◌, sym, refl}
+use Rattle.board.proofs.Repairing.{repaired_by_limit}
 use Rattle.board.proofs.Withdrawn.{withdrawn_book, withdrawn_free, withdrawn_partner}
 use Rattle.board.proofs.Board.withdraw.Goals as goal
 
@@ -24,11 +21,11 @@ returns-in-Some g c =
           made_is (load.simple made_is) c.remove_links.new.tables c.remove_links.ensures.removes;
       partners = λ stands.
           let parts = c.repair_of.ensures in
-          let change = on_book made graph before (λ before t graph. Changes graph (repair before t graph (c.in-Some.b ∷ [])) c.part.new.self c.repair.new.tables)
-          c.repair_of.result c.remove_links.new.book s.ranking c.repair_of.result.limit parts.links parts.ranking refl c.repair.ensures in
+          let change = repaired_by_limit graph made ledger before c.repair_of.result c.remove_links.new.book s.ranking (c.in-Some.b ∷ []) c.part.new.self c.repair.new.tables
+          parts.links parts.ranking parts.limit c.repair.ensures in
           withdrawn_partner graph made ledger before s c.args.a (load.load stands.book_made).0 (record { book = c.remove_links.new.book; ranking = s.ranking; tables = c.repair.new.tables })
           stands c.in-Some.b (sym c.in-Some.ensures.value) c.remove_links.new.tables c.part.new.self c.remove_links.ensures.removes c.part.ensures.changed
-          (threshold c.repair_of.result.limit) (λ made_is. ap threshold (parts.limit made_is)) parts.bounded change;
+          parts.bounded change;
     }
 
 pub returns-in_default : goal.returns-in_default

@@ -1,6 +1,6 @@
 use Rattle.std.proofs.Common.{◌<◌}
 use Rattle.graph.specs.Graph.{Simple}
-use Rattle.links.specs.Walks.{Over}
+use Rattle.links.specs.InOrder.{Over}
 use Rattle.board.specs.Recording.{AllFree, links_before}
 use Rattle.board.proofs.opening.record_below.Given as goal
 

@@ -1,6 +1,6 @@
 use Rattle.std.proofs.Common.{not, eqb, rules, tests}
 use Rattle.repair.proofs.Others.{first_other}
-use Rattle.repair.proofs.Walks.{free_best}
+use Rattle.repair.proofs.Bests.{free_best}
 use Rattle.repair.proofs.Repair.first_other_free.Goals as goal
 
 pub returns : goal.returns

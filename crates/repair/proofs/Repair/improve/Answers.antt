@@ -2,7 +2,7 @@ use Rattle.std.proofs.Common.{sym, ◌∙◌, arith}
 use Rattle.rules.specs.Threshold.{threshold}
 use Rattle.repair.proofs.Displacing.{improve_taken, improve_alone, improve_other}
 use Rattle.repair.proofs.Repair.improve.Goals as goal
-use Rattle.repair.proofs.Repair.improve.Goals.{then-not-is_free-via-then-not-is_free, then-not-is_free-via-else-not-is_free+then-links-eq0}
+use Rattle.repair.proofs.Repair.improve.Goals.{then-not-is_free-via-then-not-is_free, then-not-is_free-via-else-not-is_free+then-degree-eq0}
 
 pub returns-then-not-is_free : goal.returns-then-not-is_free
 returns-then-not-is_free g c = λ made simple agrees matching.
@@ -12,8 +12,8 @@ returns-then-not-is_free g c = λ made simple agrees matching.
     elim c.then-not-is_free.branch [
       | then-not-is_free-via-then-not-is_free w ↦
           improve_taken before most graph c.args.a agrees matching (sym c.is_free.ensures ∙ w.if-not-is_free.true)
-      | then-not-is_free-via-else-not-is_free+then-links-eq0 w ↦
-          improve_alone before most graph c.args.a agrees matching (sym c.is_free.ensures ∙ w.if-not-is_free.false) simple (omega (arith, w.links.ensures, w.if-links-eq0))
+      | then-not-is_free-via-else-not-is_free+then-degree-eq0 w ↦
+          improve_alone before most graph c.args.a agrees matching (sym c.is_free.ensures ∙ w.if-not-is_free.false) simple (omega (arith, w.degree.ensures, w.if-degree-eq0))
     ]
 
 pub returns-then-not-augment : goal.returns-then-not-augment

@@ -1,14 +1,10 @@
 use Rattle.std.proofs.Common.{rules}
 use Rattle.rules.specs.Repair.{any_below, ends_path}
 use Rattle.tables.specs.Views.{partners_of}
-use Rattle.repair.proofs.Walks.{linked_best}
 use Rattle.repair.proofs.Repair.path_start.Goals as goal
 
 pub returns : goal.returns
 returns g c = λ made simple agrees.
-    let links = c.args.self.now.links.now in
-    let graph = g.L.Links.graph links in
+    let graph = g.L.Links.graph c.args.self.now.links.now in
     let p = partners_of c.args.tables.now in
-    linked_best g.L.Links.made g.L.Links.graph _ (g.R.Ranking.before c.args.self.now.ranking.now c.args.a) links c.args.a c.linked_loads-walk.result
-    c.linked_loads-walk.ensures.over c.linked_loads-walk.ensures.begins c.best_of.ensures made simple
-    (λ x. any_below graph.size (ends_path graph p c.args.a (p x))) (λ x b answers. search (rules, simple, agrees))
+    c.first_linked.ensures made simple (λ x. any_below graph.size (ends_path graph p c.args.a (p x))) (λ x b answers. search (rules, simple, agrees))

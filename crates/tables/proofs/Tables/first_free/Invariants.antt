@@ -1,7 +1,7 @@
 use Rattle.std.proofs.Common.{◌≡◌}
 use Rattle.rules.specs.First.{first}
 use Rattle.tables.specs.Views.{free_linked}
-use Rattle.tables.specs.Walks.{OverFree}
+use Rattle.tables.specs.FreeLoads.{OverFree}
 use Rattle.tables.proofs.Tables.first_free.Given as goal
 
 abbrev pub invariant-loop-x : goal.invariant-loop-x

@@ -1,6 +1,6 @@
 use Rattle.std.proofs.Common.{false, ◌&&◌, ltb}
 use Rattle.graph.specs.Graph.{Simple}
-use Rattle.links.specs.Walks.{Over}
+use Rattle.links.specs.InOrder.{Over}
 use Rattle.tables.specs.Steps.{Stepped}
 use Rattle.tables.proofs.Tables.tell_linked.Given as goal
 

@@ -1,4 +1,0 @@
-pub mod RowChange
-pub mod Rising
-pub mod RowLaws
-pub mod Memory

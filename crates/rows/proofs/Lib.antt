@@ -1,4 +1,0 @@
-pub mod BookLaws
-pub mod BookChange
-pub mod BookAnswers
-pub mod Memory

@@ -1,6 +1,0 @@
-use Rattle.std.proofs.Common.{length, sym, ap, ◌∙◌}
-use Rattle.rows.proofs.BookLaws.{degree_is}
-use Rattle.rows.proofs.SortedRowsLinks.degree.Goals as goal
-
-pub returns : goal.returns
-returns c made = ap length c.row.ensures ∙ sym (degree_is _ _ _ _ _ made c.args.a)

@@ -1,8 +1,0 @@
-use Rattle.std.proofs.Common.{rules}
-use Rattle.rows.proofs.BookLaws.{found_next}
-use Rattle.rows.proofs.SortedRowsLinks.next_linked.Goals as goal
-
-pub returns : goal.returns
-returns c made =
-    found_next _ _ _ _ _ made c.args.a c.args.from c.position.result c.row-row.result.now
-    c.row-row.ensures c.position.ensures.first c.map.result (search rules)

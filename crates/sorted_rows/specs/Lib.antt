@@ -1,0 +1,4 @@
+pub mod Row
+pub mod RowMemory
+pub mod Rows
+pub mod Theorems
