@@ -376,9 +376,11 @@ fn told(rt: HostRuntime) -> Result<(), Fail> {
     )?;
     check_printed(&rt, BadText::NoMemory, "no memory is left")?;
     let at = |refusal: Refusal, place| BadStream::At(refusal.by(Layer::Stream), place);
-    let unknown = Refusal::UnknownCommand;
-    let words = format!(in rt.alloc(); "byte 5: {unknown} (refusal 12)")?;
-    check_printed(&rt, at(unknown, 5), words.as_str())?;
+    check_printed(
+        &rt,
+        at(Refusal::UnknownCommand, 5),
+        "byte 5: unknown command byte (refusal 12)",
+    )?;
     check_printed(
         &rt,
         at(Refusal::CutShort, 65_535),

@@ -1,7 +1,8 @@
 -- Whole texts and the streams that they stand for.
-use Rattle.std.specs.Prelude.{◌≡◌, ℕ, ◌+◌, ◌<◌, ◌≤◌, true, false, cond, List, [], ◌++◌, length, take}
+use Rattle.std.specs.Prelude.{◌≡◌, ℕ, ◌+◌, ◌<◌, ◌≤◌, true, false, cond}
+use Rattle.std.specs.Prelude.{List, [], ◌++◌, length, take, slice_index_or}
 use Rattle.std.specs.Prelude.{is_ok, Some, None, Ok, Err, vec_items, string_bytes, codes, decimal}
-use Rattle.std.specs.Prelude.{Option, Result, Vec, String, ◌==◌, slice_index_or}
+use Rattle.std.specs.Prelude.{Option, Result, Vec, String, ◌==◌}
 use Rattle.std.specs.List.{slice_split, flat_map, AllByRecursion}
 use Rattle.std.specs.declared.alloc.Global.{Global}
 use Rattle.links.specs.Refusals.{told}

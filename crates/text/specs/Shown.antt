@@ -1,5 +1,6 @@
 -- How a line is shown to a person.
-use Rattle.std.specs.Prelude.{ℕ, cond, List, ◌++◌, length, take, codes, nat_lt, encode_utf8_all}
+use Rattle.std.specs.Prelude.{ℕ, cond, List, ◌++◌, length, take}
+use Rattle.std.specs.Prelude.{codes, nat_lt, encode_utf8_all}
 use Rattle.std.specs.List.{flat_map}
 use Rattle.std.specs.Char.Escape.{escape_ascii}
 

@@ -1,7 +1,6 @@
 // Runs of `pairtext`.
 use super::check_ended;
 use crate::pairtext::run;
-use links::Refusal;
 use std::process::Abort;
 use std::test::Fail;
 
@@ -139,9 +138,13 @@ fn bad_streams(rt: HostRuntime) -> Result<(), Fail> {
         "byte 5: the stream ends inside a command (refusal 13)\n",
         1,
     )?;
-    let unknown = Refusal::UnknownCommand;
-    let message = format!(in rt.alloc(); "byte 5: {unknown} (refusal 12)\n")?;
-    check_message(&rt, words, &[1, 0, 1, 0, 2, 9], message.as_str(), 1)?;
+    check_message(
+        &rt,
+        words,
+        &[1, 0, 1, 0, 2, 9],
+        "byte 5: unknown command byte (refusal 12)\n",
+        1,
+    )?;
     check_message(
         &rt,
         words,
