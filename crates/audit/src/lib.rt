@@ -157,13 +157,7 @@ impl<L: Links> Claimed<'_, L> {
         ensures { LowestPath (length self.now.claims.now) (claimed self.now.claims.now)
             (F.post path_from) result }
     {
-        (0..self.claims.len()).find_map(|a| {
-            if self.is_free(a) {
-                path_from(a)
-            } else {
-                None
-            }
-        })
+        (0..self.claims.len()).find_map(|a| { if self.is_free(a) { path_from(a) } else { None } })
     }
 
     // The verdict on one claim for each load.
