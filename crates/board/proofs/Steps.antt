@@ -1,16 +1,16 @@
 -- What a call promises, refused or granted.
-use Rattle.std.proofs.Common.{◌≡◌, ℕ, ◌≤◌, List, Err, true, IfOk, Some, None, Ok, Option, Result, sym, refl, ap, ◌∙◌, subst}
+use Rattle.std.proofs.Common.{◌≡◌, ℕ, ◌≤◌, List, true, IfOk, None, Ok, Option, Result, sym, refl, ap, ◌∙◌, subst}
 use Rattle.graph.specs.Graph.{Graph, link_count}
 use Rattle.graph.specs.Matching.{Partners, Matching}
 use Rattle.links.specs.Books.{Ledger, Bounded, Stands as BookStands}
-use Rattle.links.specs.Refusals.{Reason, Answers, told}
+use Rattle.links.specs.Refusals.{Reason, Answers}
 use Rattle.links.specs.declared.refusal.Refused.{Refused}
 use Rattle.links.proofs.Reasons.{kept_same}
 use Rattle.rules.specs.Calls.{Position, Call, Answer, is_question, reason, answer, unless, granted, after, repaired}
 use Rattle.rules.specs.Health.{Sound}
 use Rattle.rules.specs.Repair.{Ranking, repair}
 use Rattle.rules.specs.Threshold.{threshold}
-use Rattle.rules.proofs.Calls.{call_kept, call_follows, refused_unchanged}
+use Rattle.rules.proofs.Calls.{call_kept, call_follows}
 use Rattle.rules.proofs.Questions.{question_same}
 use Rattle.tables.specs.declared.Tables.{Tables}
 use Rattle.tables.specs.Views.{partners_of, Agrees}

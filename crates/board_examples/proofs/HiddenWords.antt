@@ -10,7 +10,7 @@ use Rattle.bit_matrix.specs.Matrix.{matrix_graph, MatrixMade, matrix_ledger, che
 use Rattle.class_filter.specs.declared.ClassFilter.{ClassFilter}
 use Rattle.class_filter.specs.Classes.{class_of, bars_classes, hidden, filter_graph, filter_ledger}
 use Rattle.rules.specs.Boards.{by_number}
-use Rattle.rules.specs.Calls.{Position, unlink, reason, after}
+use Rattle.rules.specs.Calls.{Position, unlink, after}
 use Rattle.board_examples.proofs.HiddenLinks.{hides, start}
 use Rattle.board_examples.proofs.Lent.{Narrow, Words}
 

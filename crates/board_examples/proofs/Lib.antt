@@ -5,6 +5,7 @@ mod Brought
 mod HiddenLinks
 mod StreamSteps
 mod ByLaw
+mod ReadByLaw
 mod PlayedOut
 mod Lent
 mod HiddenWords

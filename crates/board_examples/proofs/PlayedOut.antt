@@ -20,7 +20,7 @@ use Rattle.board.specs.Boards.{Steps}
 use Rattle.board_examples.specs.Lent.{five_links, links_left}
 use Rattle.board_examples.specs.Played.{Plays}
 use Rattle.board_examples.proofs.Lent.{Words}
-use Rattle.board_examples.proofs.Positions.{At, links_refused, at_links, call_answers, at_call}
+use Rattle.board_examples.proofs.Positions.{At, at_links, call_answers, at_call}
 use Rattle.board_examples.proofs.Refusals.{not_refused, refused_with}
 
 abbrev pub pairs : List (ℕ × ℕ)

@@ -18,7 +18,6 @@ use Rattle.stream.specs.Replies.{call_of, reply_at}
 use Rattle.stream.specs.Steps.{Found, at_end, no_command, command, found_at, stepping, WritesLine, Takes, Steps}
 use Rattle.stream.specs.declared.Stepped.{Stepped}
 use Rattle.board_examples.specs.Stepping.{Grants, next_place, Moved, CarriesOut, CarriesOutTwo}
-use Rattle.board_examples.proofs.Refusals.{not_refused}
 
 -- ---- the line
 

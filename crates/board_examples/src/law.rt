@@ -5,8 +5,8 @@ ghost use Rattle.links.specs.Books.{fresh_ledger};
 ghost use Rattle.board_examples.specs.Lawful.{LawSeen};
 
 use crate::{link_all, partners};
-use board::Board;
 use bit_matrix::BitMatrix;
+use board::Board;
 use links::{Book, Refused};
 use ranking::{ByNumber, Ranking};
 

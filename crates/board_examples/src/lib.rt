@@ -8,8 +8,8 @@ ghost use Rattle.links.specs.Books.{Stands};
 ghost use Rattle.links.specs.Books.{fresh_ledger};
 ghost use Rattle.board_examples.specs.Played.{Plays, Reads};
 
-use board::Board;
 use bit_matrix::BitMatrix;
+use board::Board;
 use class_filter::ClassFilter;
 use links::{Book, Layer, Refusal, Refused};
 use ranking::detour::{ByDetour, Place};

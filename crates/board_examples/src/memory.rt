@@ -8,8 +8,8 @@ ghost use Rattle.rules.specs.Boards.{by_number};
 ghost use Rattle.board_examples.specs.Lent.{PlaysOut, WordsAre};
 
 use crate::link_all;
-use board::Board;
 use bit_matrix::BitMatrix;
+use board::Board;
 use class_filter::ClassFilter;
 use links::{Book, Links, Refused};
 use ranking::ByNumber;

@@ -25,7 +25,7 @@ const LONGEST_LIST: usize = 256 * LONGEST_PAIR;
 pub struct Stepped {
     /// The place after the command; where no command stands at the place given, that place.
     pub place: usize,
-    /// How many bytes the line has, line feed included: 0 at or past the end of the stream, else 3
+    /// How many bytes the line has, line feed included: 0 where the stream has ended before, else 3
     /// to 19.
     pub written: usize,
 }

@@ -10,8 +10,8 @@ ghost use Rattle.transcript.specs.declared.Failure.TheVariants.{Input, Memory};
 ghost use Rattle.transcript.specs.Words.{failure_text};
 ghost use Rattle.transcript.specs.Worked.{WorkedStream};
 
-use board::Board;
 use bit_matrix::BitMatrix;
+use board::Board;
 use links::{Book, Refused};
 use ranking::{ByNumber, Ranking};
 use replies::{LONGEST_LINE, LONGEST_PAIR};

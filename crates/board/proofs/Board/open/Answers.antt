@@ -1,4 +1,4 @@
-use Rattle.std.proofs.Common.{◌≡◌, ℕ, ◌≤◌, List, take, subst, refl, ap, rules, arith}
+use Rattle.std.proofs.Common.{◌≡◌, ℕ, ◌≤◌, List, take, subst, rules, arith}
 use Rattle.rules.specs.Repair.{repair}
 use Rattle.rules.specs.Threshold.{threshold}
 use Rattle.repair.specs.Holds.{Changes}
