@@ -4,6 +4,8 @@
 #[cfg(test)]
 mod claims;
 #[cfg(test)]
+mod every_book;
+#[cfg(test)]
 mod holders;
 #[cfg(test)]
 mod matrix;
