@@ -37,7 +37,7 @@ pub trait BookKind<'a>: Book + Drop {
     fn need(shape: Shape) -> usize;
 
     /// How many links each load of a fresh book may take.
-    fn spare(shape: Shape) -> usize;
+    fn fresh_spare(shape: Shape) -> usize;
 
     /// The `check` of the kind.
     fn check(shape: Shape, memory: &[Self::Cell]) -> Result<(), Refused>;
@@ -62,7 +62,7 @@ impl<'a> BookKind<'a> for BitMatrix<'a> {
         shape.size.saturating_mul(shape.size.div_ceil(64))
     }
 
-    fn spare(shape: Shape) -> usize {
+    fn fresh_spare(shape: Shape) -> usize {
         shape.size.saturating_sub(1)
     }
 
@@ -90,7 +90,7 @@ impl<'a> BookKind<'a> for SortedRows<'a> {
         shape.size.saturating_mul(shape.row_limit.saturating_add(1))
     }
 
-    fn spare(shape: Shape) -> usize {
+    fn fresh_spare(shape: Shape) -> usize {
         shape.row_limit
     }
 
