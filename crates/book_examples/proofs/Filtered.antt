@@ -9,7 +9,7 @@ use Rattle.class_filter.specs.declared.ClassFilter.{ClassFilter}
 use Rattle.class_filter.specs.Classes.{class_of, bars_classes, hidden, filtered, filtered_ledger, filter_graph, FilterMade, filter_ledger}
 use Rattle.class_filter.proofs.Filtered.{adding_filtered}
 
-either_zero : (x : Bool) → cond x 0 0 ≡ 0
+either_zero : (x : Bool) → ◌≡◌ {A = ℕ} (cond x 0 0) 0
 either_zero true = refl
 either_zero false = refl
 
