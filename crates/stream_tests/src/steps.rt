@@ -1,7 +1,7 @@
 // Steps of a stream, and the list of the pairs.
 use crate::playing::play_one;
-use board::Board;
 use bit_matrix::BitMatrix;
+use board::Board;
 use links::{Book, Layer, Refusal, Refused};
 use ranking::{ByNumber, Ranking};
 use std::process::Abort;

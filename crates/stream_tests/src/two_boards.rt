@@ -1,7 +1,7 @@
 // Two boards in one process, each fed a damaged stream.
 use crate::playing::{check_pairs, check_play, play_one};
-use board::Board;
 use bit_matrix::BitMatrix;
+use board::Board;
 use links::Book;
 use ranking::ByNumber;
 use std::process::Abort;

@@ -74,12 +74,7 @@ impl Trial {
         let expected = book(shape.size, shape.row_limit, shape.limit, need, length);
         same("making of a book", answer, expected)?;
         let plain = match answer {
-            Ok(()) => PlainBook::new(
-                self.alloc,
-                shape.size,
-                K::fresh_spare(shape),
-                shape.limit,
-            )?,
+            Ok(()) => PlainBook::new(self.alloc, shape.size, K::fresh_spare(shape), shape.limit)?,
             Err(_) => PlainBook::new(self.alloc, 0, 0, 0)?,
         };
         same_book(&K::make(shape, memory), &plain)
