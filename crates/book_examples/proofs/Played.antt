@@ -35,6 +35,10 @@ module _ {S : Type 0} (graph : S → Graph) (made : S → Type 0) (ledger : S �
   pub reason_none : (s : S) (g : Graph) (l : Ledger) (a b : ℕ) → Stands graph made ledger s g l → adding g l a b ≡ None → adding (graph s) (ledger s) a b ≡ None
   reason_none s g l a b stands none = ap₂ (λ (h : Graph) (m : Ledger). adding h m a b) stands.graph_is stands.ledger_is ∙ none
 
+  -- a caller that adds and asks finds the link where there is no reason to refuse
+  pub asked_there : (s : S) (g : Graph) (l : Ledger) (a b : ℕ) (r : Result Bool Refused) → Stands graph made ledger s g l → adding g l a b ≡ None → (made s → Answers (adding (graph s) (ledger s) a b) r (λ there. there ≡ true)) → r ≡ Ok true
+  asked_there s g l a b r stands none answer = asked _ r (reason_none s g l a b stands none) (answer stands.still_made)
+
   granted : (g : Graph) (l : Ledger) (a b : ℕ) (t : S) (r : Result Unit Refused) → Answers (adding g l a b) r (λ _. Stands graph made ledger t (added g a b) (lowered l a b)) → adding g l a b ≡ None → (r ≡ Ok tt) × Stands graph made ledger t (added g a b) (lowered l a b)
   granted g l a b t (Ok u) h e = (refl, h.1)
   granted g l a b t (Err x) h e = absurd (no_reason (told x) (sym h ∙ e))

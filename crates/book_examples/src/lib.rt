@@ -28,6 +28,30 @@ pub fn add_and_ask<B: Book>(book: &mut B, a: usize, b: usize) -> Result<bool, Re
     Ok(book.linked(b, a))
 }
 
+/// The same in a book behind a filter that hides nothing: the filter answers as the book itself.
+pub fn add_and_ask_filtered<B: Book + Drop>(book: B, a: usize, b: usize) -> Result<bool, Refused>
+    ensures { B.Links.made book →
+        Answers (adding (B.Links.graph book) (B.Book.ledger book) a b) result
+        (λ there. there ≡ true) }
+{
+    let mut filtered = ClassFilter::new(book, &[], [0; 8]);
+    add_and_ask(&mut filtered, a, b)
+}
+
+/// The same in a book behind two such filters. A filter is a book too.
+pub fn add_and_ask_filtered_twice<B: Book + Drop>(
+    book: B,
+    a: usize,
+    b: usize,
+) -> Result<bool, Refused>
+    ensures { B.Links.made book →
+        Answers (adding (B.Links.graph book) (B.Book.ledger book) a b) result
+        (λ there. there ≡ true) }
+{
+    let filtered = ClassFilter::new(book, &[], [0; 8]);
+    add_and_ask_filtered(filtered, a, b)
+}
+
 /// On a fresh bit matrix the first link is granted, and there.
 pub fn on_matrix() -> Result<bool, Refused>
     ensures { result ≡ Ok true }
@@ -52,8 +76,7 @@ pub fn on_filtered_matrix() -> Result<bool, Refused>
 {
     let mut words = [0; 3];
     let matrix = BitMatrix::new(3, 3, &mut words);
-    let mut book = ClassFilter::new(matrix, &[], [0; 8]);
-    add_and_ask(&mut book, 0, 1)
+    add_and_ask_filtered(matrix, 0, 1)
 }
 
 /// The same on rows under such a filter.
@@ -62,8 +85,7 @@ pub fn on_filtered_rows() -> Result<bool, Refused>
 {
     let mut numbers = [0; 6];
     let rows = SortedRows::new(3, 1, 3, &mut numbers);
-    let mut book = ClassFilter::new(rows, &[], [0; 8]);
-    add_and_ask(&mut book, 0, 1)
+    add_and_ask_filtered(rows, 0, 1)
 }
 
 /// The same under two such filters.
@@ -72,9 +94,7 @@ pub fn on_two_filters() -> Result<bool, Refused>
 {
     let mut words = [0; 3];
     let below = BitMatrix::new(3, 3, &mut words);
-    let inner = ClassFilter::new(below, &[], [0; 8]);
-    let mut book = ClassFilter::new(inner, &[], [0; 8]);
-    add_and_ask(&mut book, 0, 1)
+    add_and_ask_filtered_twice(below, 0, 1)
 }
 
 /// A bit matrix of four loads with limit 1 takes one link, and has no room for another (10).

@@ -4,8 +4,20 @@
 #[cfg(test)]
 mod claims;
 #[cfg(test)]
-mod holders;
+mod every_book;
+#[cfg(test)]
+mod filters;
+#[cfg(test)]
+mod kinds;
+#[cfg(test)]
+mod lists;
+#[cfg(test)]
+mod makings;
 #[cfg(test)]
 mod matrix;
 #[cfg(test)]
 mod places;
+#[cfg(test)]
+mod refusals;
+#[cfg(test)]
+mod rows;

@@ -1,67 +1,6 @@
-// The bit matrix at its limits, and the numbers of the refusals.
+// The memory of a bit matrix.
 use bit_matrix::BitMatrix;
 use links::{Book, Layer, Links, Refusal};
-
-#[test]
-fn numbers(rt: HostRuntime) {
-    let all = [
-        Refusal::SizeOutOfRange,
-        Refusal::LimitOutOfRange,
-        Refusal::WrongLength,
-        Refusal::NoSuchLoad,
-        Refusal::SameLoad,
-        Refusal::AlreadyLinked,
-        Refusal::NotLinked,
-        Refusal::Barred,
-        Refusal::LoadFull,
-        Refusal::BookFull,
-        Refusal::NoPartner,
-        Refusal::UnknownCommand,
-        Refusal::CutShort,
-        Refusal::OutputTooShort,
-        Refusal::BadEntry(3),
-    ];
-    for (i, refusal) in all.iter().enumerate() {
-        assert_eq!(rt; usize::from(refusal.number()), i + 1);
-    }
-}
-
-#[test]
-fn sizes(rt: HostRuntime) {
-    let words = [0u64; 1024];
-    for size in [1, 64, 65, 256] {
-        assert_eq!(rt; BitMatrix::check(size, 1, &words), Ok(()));
-    }
-    for size in [0, 257, usize::MAX] {
-        assert_eq!(rt;
-            BitMatrix::check(size, 1, &words),
-            Err(Refusal::SizeOutOfRange.by(Layer::Book))
-        );
-    }
-}
-
-#[test]
-fn limits(rt: HostRuntime) {
-    let words = [0u64; 1024];
-    for limit in [1, 32640] {
-        assert_eq!(rt; BitMatrix::check(256, limit, &words), Ok(()));
-    }
-    for limit in [0, 32641, usize::MAX] {
-        assert_eq!(rt;
-            BitMatrix::check(256, limit, &words),
-            Err(Refusal::LimitOutOfRange.by(Layer::Book))
-        );
-    }
-    // the first reason counts
-    assert_eq!(rt;
-        BitMatrix::check(0, 0, &[]),
-        Err(Refusal::SizeOutOfRange.by(Layer::Book))
-    );
-    assert_eq!(rt;
-        BitMatrix::check(1, 0, &[]),
-        Err(Refusal::LimitOutOfRange.by(Layer::Book))
-    );
-}
 
 // A row has a word for each 64 loads begun.
 #[test]
@@ -103,34 +42,4 @@ fn layout(rt: HostRuntime) {
         };
         assert_eq!(rt; *word, expected);
     }
-}
-
-// A making where the check would refuse has no loads, and touches nothing.
-#[test]
-fn made_in_spite(rt: HostRuntime) {
-    let mut words = [7u64; 2];
-    let mut book = BitMatrix::new(3, 5, &mut words);
-    assert_eq!(rt; book.size(), 0);
-    assert_eq!(rt; book.limit(), 0);
-    assert_eq!(rt; book.add(0, 1), Err(Refusal::NoSuchLoad.by(Layer::Book)));
-    assert_eq!(rt; words, [7, 7]);
-}
-
-#[test]
-fn refusals(rt: HostRuntime) {
-    let mut words = [0u64; 4];
-    let mut book = BitMatrix::new(4, 1, &mut words);
-    assert_eq!(rt; book.add(0, 4), Err(Refusal::NoSuchLoad.by(Layer::Book)));
-    assert_eq!(rt; book.add(4, 4), Err(Refusal::NoSuchLoad.by(Layer::Book)));
-    assert_eq!(rt; book.add(2, 2), Err(Refusal::SameLoad.by(Layer::Book)));
-    assert_eq!(rt; book.remove(0, 1), Err(Refusal::NotLinked.by(Layer::Book)));
-    assert_eq!(rt; book.add(0, 1), Ok(()));
-    assert_eq!(rt; book.add(1, 0), Err(Refusal::AlreadyLinked.by(Layer::Book)));
-    assert_eq!(rt; book.add(2, 3), Err(Refusal::BookFull.by(Layer::Book)));
-    assert_eq!(rt; book.remove(1, 1), Err(Refusal::SameLoad.by(Layer::Book)));
-    assert_eq!(rt; book.remove(1, 9), Err(Refusal::NoSuchLoad.by(Layer::Book)));
-    assert_eq!(rt; book.link_count(), 1);
-    assert_eq!(rt; book.remove(1, 0), Ok(()));
-    assert_eq!(rt; book.add(2, 3), Ok(()));
-    assert!(rt; !book.is_barred(2, 3));
 }

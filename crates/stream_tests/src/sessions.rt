@@ -1,9 +1,49 @@
 // Whole streams: the lines that they are answered by, and the pairs that are left.
 use crate::playing::check_play;
 use bit_matrix::BitMatrix;
+use book_kinds::{BookKind, Shape, each_kind_of_book};
 use class_filter::ClassFilter;
 use sorted_rows::SortedRows;
+use std::alloc::Global;
+use std::process::Abort;
 use std::test::Fail;
+
+// A stream, the lines that answer it, and the pairs that are left.
+#[derive(Clone, Copy)]
+struct Session<'a> {
+    stream: &'a [u8],
+    lines: &'a [&'a str],
+    pairs: &'a str,
+}
+
+macro_rules! play_on_kind {
+    ($kind:ty, ($rt:ident, $alloc:ident, $shape:ident, $session:ident)) => {
+        let need = <$kind as BookKind>::need($shape);
+        let mut memory = vec![in $alloc; <$kind as BookKind>::noise(); need]?;
+        let book = <$kind as BookKind>::make($shape, &mut memory);
+        check_play($rt, book, $session.stream, $session.lines, $session.pairs)?;
+    };
+}
+
+// Plays a session on a fresh book of every kind.
+fn play_everywhere(
+    rt: &impl Abort,
+    alloc: Global,
+    shape: Shape,
+    session: Session<'_>,
+) -> Result<(), Fail> {
+    each_kind_of_book!(play_on_kind(rt, alloc, shape, session));
+    Ok(())
+}
+
+// Four loads, each of which may have every link, and at most so many links.
+fn four_loads(limit: usize) -> Shape {
+    Shape {
+        size: 4,
+        row_limit: 3,
+        limit,
+    }
+}
 
 const FOUR_IN_A_ROW: [u8; 24] = [
     1, 0, 1, 0, 2, 1, 0, 0, 0, 1, 1, 0, 2, 0, 3, 5, 0, 1, 1, 0, 2, 0, 2, 9,
@@ -23,15 +63,17 @@ const FOUR_IN_A_ROW_LINES: [&str; 7] = [
 // Four loads in a row, a question, a load linked to itself, and a byte that is no command.
 #[test]
 fn four_in_a_row(rt: HostRuntime) -> Result<(), Fail> {
-    let mut words = [0u64; 1024];
-    let book = BitMatrix::new(256, 2048, &mut words);
-    check_play(
-        &rt,
-        book,
-        &FOUR_IN_A_ROW,
-        &FOUR_IN_A_ROW_LINES,
-        "0 1\n2 3\n",
-    )
+    let shape = Shape {
+        size: 256,
+        row_limit: 255,
+        limit: 2048,
+    };
+    let session = Session {
+        stream: &FOUR_IN_A_ROW,
+        lines: &FOUR_IN_A_ROW_LINES,
+        pairs: "0 1\n2 3\n",
+    };
+    play_everywhere(&rt, rt.alloc(), shape, session)
 }
 
 const CUT_SHORT: [u8; 9] = [1, 0, 0, 0, 1, 1, 0, 2, 0];
@@ -40,9 +82,12 @@ const CUT_SHORT_LINES: [&str; 3] = ["ok\n", "no 13 stream 5\n", "no 13 stream 5\
 
 #[test]
 fn cut_short(rt: HostRuntime) -> Result<(), Fail> {
-    let mut words = [0u64; 4];
-    let book = BitMatrix::new(4, 9, &mut words);
-    check_play(&rt, book, &CUT_SHORT, &CUT_SHORT_LINES, "0 1\n")
+    let session = Session {
+        stream: &CUT_SHORT,
+        lines: &CUT_SHORT_LINES,
+        pairs: "0 1\n",
+    };
+    play_everywhere(&rt, rt.alloc(), four_loads(9), session)
 }
 
 const NO_SUCH_LOAD: [u8; 19] = [1, 0, 4, 0, 4, 2, 0, 0, 255, 255, 3, 0, 4, 4, 0, 4, 5, 1, 0];
@@ -59,9 +104,12 @@ const NO_SUCH_LOAD_LINES: [&str; 6] = [
 // Each command with a load that is not there: 4 counts before every other reason.
 #[test]
 fn no_such_load(rt: HostRuntime) -> Result<(), Fail> {
-    let mut words = [0u64; 4];
-    let book = BitMatrix::new(4, 9, &mut words);
-    check_play(&rt, book, &NO_SUCH_LOAD, &NO_SUCH_LOAD_LINES, "")
+    let session = Session {
+        stream: &NO_SUCH_LOAD,
+        lines: &NO_SUCH_LOAD_LINES,
+        pairs: "",
+    };
+    play_everywhere(&rt, rt.alloc(), four_loads(9), session)
 }
 
 // Unlink 3 3, depart 1, ask for 1, unlink 0 1, link 0 1, link 1 0, link 2 3, depart 2.
@@ -82,12 +130,15 @@ const ONE_LINK_LINES: [&str; 9] = [
     "",
 ];
 
-// What a board and a bit matrix that takes one link refuse.
+// What a board and a book that takes one link refuse.
 #[test]
 fn one_link(rt: HostRuntime) -> Result<(), Fail> {
-    let mut words = [0u64; 4];
-    let book = BitMatrix::new(4, 1, &mut words);
-    check_play(&rt, book, &ONE_LINK, &ONE_LINK_LINES, "0 1\n")
+    let session = Session {
+        stream: &ONE_LINK,
+        lines: &ONE_LINK_LINES,
+        pairs: "0 1\n",
+    };
+    play_everywhere(&rt, rt.alloc(), four_loads(1), session)
 }
 
 const FULL_ROW: [u8; 21] = [

@@ -1,11 +1,11 @@
 // Random boards, each played beside the reference.
 use crate::comparing::{same, same_board, same_book};
 use crate::scripts;
-use crate::setting::{BOOKS, BookKind, Classes, Filters, Kind, RANKINGS, RankingKind, Setting};
+use crate::setting::{Classes, Filters, Kind, RANKINGS, RankingKind, Setting};
 use crate::trial::Trial;
 use anyhow::{Context, Result};
 use board::Board;
-use bit_matrix::BitMatrix;
+use book_kinds::{BookKind, each_kind_of_book};
 use class_filter::ClassFilter;
 use links::Book;
 use ranking::detour::ByDetour;
@@ -13,7 +13,6 @@ use ranking::{ByNumber, Ranking};
 use reference::calls::{Answer, Call};
 use reference::pairing::Pairing;
 use reference::plain_book::PlainBook;
-use sorted_rows::SortedRows;
 
 // Makes a call on a board.
 fn make<B: Book, R: Ranking>(board: &mut Board<B, R>, call: Call) -> Answer {
@@ -25,6 +24,28 @@ fn make<B: Book, R: Ranking>(board: &mut Board<B, R>, call: Call) -> Answer {
         Call::Partner(a) => return board.partner(usize::from(a)),
     };
     granted.map(|()| None)
+}
+
+// Plays a setting on one kind of book, each time in new memory that is not clear.
+macro_rules! play_kind {
+    ($kind:ty, ($trial:ident, $setting:ident)) => {
+        let need = <$kind as BookKind>::need($setting.shape);
+        for ranking in RANKINGS {
+            let some = $trial.random.pick(&[Filters::One, Filters::Two]);
+            for filters in [Filters::None, some.unwrap_or(Filters::Two)] {
+                let book = <$kind as BookKind>::NAME;
+                let kind = Kind {
+                    book,
+                    filters,
+                    ranking,
+                };
+                let mut memory = vec![in $trial.alloc; <$kind as BookKind>::noise(); need]?;
+                $trial
+                    .play_setting::<$kind>($setting, kind, &mut memory)
+                    .context(format_args!("{kind:?}"))?;
+            }
+        }
+    };
 }
 
 impl Trial {
@@ -144,43 +165,23 @@ impl Trial {
         }
     }
 
-    // Makes a book, in memory that is not clear, and plays a board on it.
-    fn play_setting(&mut self, setting: &Setting, kind: Kind) -> Result<()> {
-        let (size, row_limit, limit) = (setting.size, setting.row_limit, setting.limit);
-        match kind.book {
-            BookKind::Matrix => {
-                let mut words = vec![in self.alloc; 0x5555u64; size.saturating_mul(4)]?;
-                let book = BitMatrix::new(size, limit, &mut words);
-                let plain = PlainBook::new(self.alloc, size, size.saturating_sub(1), limit)?;
-                self.play_on(setting, kind, book, plain)
-            }
-            BookKind::Rows => {
-                let length = size.saturating_mul(row_limit.saturating_add(1));
-                let mut numbers = vec![in self.alloc; 0x5555u16; length]?;
-                let book = SortedRows::new(size, row_limit, limit, &mut numbers);
-                let plain = PlainBook::new(self.alloc, size, row_limit, limit)?;
-                self.play_on(setting, kind, book, plain)
-            }
-        }
+    // Makes a book of a kind and the reference's, and plays a board on it.
+    fn play_setting<'a, K: BookKind<'a>>(
+        &mut self,
+        setting: &Setting,
+        kind: Kind,
+        memory: &'a mut [K::Cell],
+    ) -> Result<()> {
+        let shape = setting.shape;
+        let spare = K::fresh_spare(shape);
+        let plain = PlainBook::new(self.alloc, shape.size, spare, shape.limit)?;
+        self.play_on(setting, kind, K::make(shape, memory), plain)
     }
 
     // The same on every kind of book, by every kind of ranking, without filters and with one or
     // two.
     fn play_everywhere(&mut self, setting: &Setting) -> Result<()> {
-        for book in BOOKS {
-            for ranking in RANKINGS {
-                let some = self.random.pick(&[Filters::One, Filters::Two]);
-                for filters in [Filters::None, some.unwrap_or(Filters::Two)] {
-                    let kind = Kind {
-                        book,
-                        filters,
-                        ranking,
-                    };
-                    self.play_setting(setting, kind)
-                        .context(format_args!("{kind:?}"))?;
-                }
-            }
-        }
+        each_kind_of_book!(play_kind(self, setting));
         Ok(())
     }
 

@@ -5,11 +5,10 @@ use crate::comparing::{same, same_book, same_links};
 use crate::random::Random;
 use crate::trial::Trial;
 use anyhow::{Context, Result};
-use bit_matrix::BitMatrix;
+use book_kinds::{BookKind, Shape, each_kind_of_book};
 use link_list::{Entry, LinkList};
-use reference::makings::{list, matrix, rows};
+use reference::makings::{book, list};
 use reference::plain_book::PlainBook;
-use sorted_rows::SortedRows;
 
 const SIZES: [usize; 12] = [0, 1, 2, 3, 63, 64, 65, 128, 255, 256, 257, usize::MAX];
 
@@ -31,57 +30,60 @@ fn draw_length(random: &mut Random, need: usize, most: usize) -> usize
         .min(most)
 }
 
+// The largest book there is, and with it the most memory that a kind needs.
+const LARGEST: Shape = Shape {
+    size: 256,
+    row_limit: 255,
+    limit: 32_640,
+};
+
+// What a making may be asked for. A kind that takes no row limit has 1.
+fn draw_shape(random: &mut Random, has_row_limit: bool) -> Shape {
+    let size = draw(random, &SIZES);
+    let row_limit = if has_row_limit {
+        draw(random, &ROW_LIMITS)
+    } else {
+        1
+    };
+    Shape {
+        size,
+        row_limit,
+        limit: draw(random, &LIMITS),
+    }
+}
+
+// Tries a making of one kind of book, in memory that is not clear.
+macro_rules! try_making {
+    ($kind:ty, ($trial:ident, $n:ident)) => {
+        let most = <$kind as BookKind>::need(LARGEST).saturating_add(1);
+        let mut memory = vec![in $trial.alloc; <$kind as BookKind>::noise(); most]?;
+        $trial
+            .making::<$kind>(&mut memory)
+            .context(format_args!("{} {}", <$kind as BookKind>::NAME, $n))?;
+    };
+}
+
 impl Trial {
-    fn matrix_making(&mut self, words: &mut [u64]) -> Result<()> {
-        let size = draw(&mut self.random, &SIZES);
-        let limit = draw(&mut self.random, &LIMITS);
-        let need = size.saturating_mul(size.div_ceil(64));
-        let length = draw_length(&mut self.random, need, words.len());
-        let words = &mut words[..length];
-        let answer = BitMatrix::check(size, limit, words);
+    fn making<'a, K: BookKind<'a>>(&mut self, memory: &'a mut [K::Cell]) -> Result<()> {
+        let shape = draw_shape(&mut self.random, K::HAS_ROW_LIMIT);
+        let need = K::need(shape);
+        let length = draw_length(&mut self.random, need, memory.len());
+        let memory = &mut memory[..length];
+        let answer = K::check(shape, memory);
         self.counts.answer(&answer);
-        same(
-            "making of a bit matrix",
-            answer,
-            matrix(size, limit, length),
-        )?;
+        let expected = book(shape.size, shape.row_limit, shape.limit, need, length);
+        same("making of a book", answer, expected)?;
         let plain = match answer {
-            Ok(()) => PlainBook::new(self.alloc, size, size.saturating_sub(1), limit)?,
+            Ok(()) => PlainBook::new(self.alloc, shape.size, K::fresh_spare(shape), shape.limit)?,
             Err(_) => PlainBook::new(self.alloc, 0, 0, 0)?,
         };
-        same_book(&BitMatrix::new(size, limit, words), &plain)
+        same_book(&K::make(shape, memory), &plain)
     }
 
-    fn rows_making(&mut self, numbers: &mut [u16]) -> Result<()> {
-        let size = draw(&mut self.random, &SIZES);
-        let row_limit = draw(&mut self.random, &ROW_LIMITS);
-        let limit = draw(&mut self.random, &LIMITS);
-        let need = size.saturating_mul(row_limit.saturating_add(1));
-        let length = draw_length(&mut self.random, need, numbers.len());
-        let numbers = &mut numbers[..length];
-        let answer = SortedRows::check(size, row_limit, limit, numbers);
-        self.counts.answer(&answer);
-        same(
-            "making of rows",
-            answer,
-            rows(size, row_limit, limit, length),
-        )?;
-        let plain = match answer {
-            Ok(()) => PlainBook::new(self.alloc, size, row_limit, limit)?,
-            Err(_) => PlainBook::new(self.alloc, 0, 0, 0)?,
-        };
-        same_book(&SortedRows::new(size, row_limit, limit, numbers), &plain)
-    }
-
-    // So many makings of each kind of book, in memory that other books held.
+    // So many makings of each kind of book.
     pub fn makings(&mut self, number: usize) -> Result<()> {
-        let mut words = vec![in self.alloc; 0x5555u64; 1025]?;
-        let mut numbers = vec![in self.alloc; 0x5555u16; 65_537]?;
         for n in 0..number {
-            self.matrix_making(&mut words)
-                .context(format_args!("bit matrix {n}"))?;
-            self.rows_making(&mut numbers)
-                .context(format_args!("rows {n}"))?;
+            each_kind_of_book!(try_making(self, n));
         }
         Ok(())
     }

@@ -1,16 +1,10 @@
 // What a board stands on, and which calls are made on it.
 use crate::random::Random;
+use book_kinds::Shape;
 use ranking::detour::Place;
 use reference::calls::Call;
 use reference::order::Order;
 use std::alloc::{AllocError, Global};
-
-// Which book holds the links.
-#[derive(Clone, Copy, PartialEq, Eq, Debug)]
-pub enum BookKind {
-    Matrix,
-    Rows,
-}
 
 #[derive(Clone, Copy, PartialEq, Eq, Debug)]
 pub enum RankingKind {
@@ -29,12 +23,10 @@ pub enum Filters {
 // What a board stands on.
 #[derive(Clone, Copy, Debug)]
 pub struct Kind {
-    pub book: BookKind,
+    pub book: &'static str,
     pub filters: Filters,
     pub ranking: RankingKind,
 }
-
-pub const BOOKS: [BookKind; 2] = [BookKind::Matrix, BookKind::Rows];
 
 pub const RANKINGS: [RankingKind; 2] = [RankingKind::ByNumber, RankingKind::ByDetour];
 
@@ -48,9 +40,7 @@ pub struct Classes {
 // A board, the calls that are made on it first, and how many are drawn at random after them.
 #[derive(Drop)]
 pub struct Setting {
-    pub size: usize,
-    pub row_limit: usize,
-    pub limit: usize,
+    pub shape: Shape,
     // how many links are tried before the board is opened
     pub brought: usize,
     pub script: Vec<Call>,
@@ -125,9 +115,11 @@ impl Setting {
         script: Vec<Call>,
     ) -> Result<Setting, AllocError> {
         Ok(Setting {
-            size,
-            row_limit: size.saturating_sub(1),
-            limit,
+            shape: Shape {
+                size,
+                row_limit: size.saturating_sub(1),
+                limit,
+            },
             brought: 0,
             script,
             calls: 0,
@@ -141,9 +133,11 @@ impl Setting {
     pub fn draw(alloc: Global, random: &mut Random, size: usize) -> Result<Setting, AllocError> {
         let (lower, upper) = (draw_bars(random), draw_bars(random));
         Ok(Setting {
-            size,
-            row_limit: random.between(size / 2, size.saturating_sub(1)).max(1),
-            limit: random.between(1, size.saturating_mul(3)),
+            shape: Shape {
+                size,
+                row_limit: random.between(size / 2, size.saturating_sub(1)).max(1),
+                limit: random.between(1, size.saturating_mul(3)),
+            },
             brought: random.below(size),
             script: Vec::new(alloc),
             calls: draw_calls(random, size),
@@ -171,9 +165,9 @@ impl Setting {
     // A load, or at times one of the first two numbers past them.
     fn draw_load(&self, random: &mut Random) -> usize {
         if random.chance(2) {
-            self.size.saturating_add(random.below(2))
+            self.shape.size.saturating_add(random.below(2))
         } else {
-            random.below(self.size)
+            random.below(self.shape.size)
         }
     }
 
@@ -193,7 +187,7 @@ impl Setting {
     // Two loads, at times the same, and often one of them the hub.
     pub fn draw_two(&self, random: &mut Random) -> (usize, usize) {
         let a = if random.chance(self.hub_percent) {
-            self.size.saturating_sub(1)
+            self.shape.size.saturating_sub(1)
         } else {
             self.draw_load(random)
         };

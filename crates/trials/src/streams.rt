@@ -4,7 +4,7 @@ use crate::random::Random;
 use crate::trial::Trial;
 use anyhow::{Context, Result};
 use board::Board;
-use bit_matrix::BitMatrix;
+use book_kinds::{BookKind, Shape, each_kind_of_book};
 use commands::{Command, read};
 use links::Book;
 use ranking::{ByNumber, Ranking};
@@ -51,6 +51,24 @@ fn output<const N: usize>(bytes: &[u8]) -> [u8; N] {
         *place = *byte;
     }
     out
+}
+
+// The books that streams are played on.
+const EIGHT: Shape = Shape {
+    size: 8,
+    row_limit: 7,
+    limit: 12,
+};
+
+// Plays a stream on one kind of book.
+macro_rules! play_stream {
+    ($kind:ty, ($trial:ident, $stream:ident, $n:ident)) => {
+        let need = <$kind as BookKind>::need(EIGHT);
+        let mut memory = vec![in $trial.alloc; <$kind as BookKind>::noise(); need]?;
+        $trial
+            .play_stream::<$kind>(&$stream, &mut memory)
+            .context(format_args!("stream {} on {}", $n, <$kind as BookKind>::NAME))?;
+    };
 }
 
 impl Trial {
@@ -159,10 +177,14 @@ impl Trial {
     }
 
     // Plays a stream on a board step by step, up to where the place stays, and lists the pairs.
-    fn play_stream(&mut self, stream: &[u8]) -> Result<()> {
-        let mut words = [0; 8];
-        let mut board = Board::open(BitMatrix::new(8, 12, &mut words), ByNumber);
-        let plain = PlainBook::new(self.alloc, 8, 7, 12)?;
+    fn play_stream<'a, K: BookKind<'a>>(
+        &mut self,
+        stream: &[u8],
+        memory: &'a mut [K::Cell],
+    ) -> Result<()> {
+        let mut board = Board::open(K::make(EIGHT, memory), ByNumber);
+        let spare = K::fresh_spare(EIGHT);
+        let plain = PlainBook::new(self.alloc, EIGHT.size, spare, EIGHT.limit)?;
         let mut pairing = Pairing::open(self.alloc, plain, Order::ByNumber)?;
         let mut place = 0;
         for _ in 0..100 {
@@ -179,8 +201,7 @@ impl Trial {
     pub fn streams(&mut self, number: usize) -> Result<()> {
         for n in 0..number {
             let stream = self.draw_stream(10)?;
-            self.play_stream(&stream)
-                .context(format_args!("stream {n}"))?;
+            each_kind_of_book!(play_stream(self, stream, n));
             let stream = self.draw_stream(65_536)?;
             self.read_all(&stream)
                 .context(format_args!("stream {n} of any loads"))?;

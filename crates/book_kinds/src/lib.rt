@@ -1,0 +1,114 @@
+//! The kinds of book, for the tests and trials that run over every one of them.
+#![tactic(auto)]
+
+use links::{Book, Refused};
+use std::fmt::Debug;
+
+pub use bit_matrix::BitMatrix;
+pub use sorted_rows::SortedRows;
+
+/// What a book is made for. A kind without a row limit leaves that out of account.
+#[derive(Clone, Copy, Debug)]
+pub struct Shape {
+    /// The number of loads.
+    pub size: usize,
+    /// The most links of one load.
+    pub row_limit: usize,
+    /// The most links of the book.
+    pub limit: usize,
+}
+
+/// A book that is made in lent memory. The numbers here are for tests: they are worked out apart
+/// from the crate of the book.
+pub trait BookKind<'a>: Book + Drop {
+    /// A word or a number of the memory.
+    type Cell: Clone + Copy + PartialEq + Debug + Drop;
+
+    /// What a test fills the memory with, to see what is written.
+    fn noise() -> Self::Cell;
+
+    /// The name of the kind.
+    const NAME: &'static str;
+
+    /// Whether the making takes the row limit. If not, each load may be linked to every other.
+    const HAS_ROW_LIMIT: bool;
+
+    /// How many cells a book of this shape uses, where there are so many.
+    fn need(shape: Shape) -> usize;
+
+    /// How many links each load of a fresh book may take.
+    fn fresh_spare(shape: Shape) -> usize;
+
+    /// The `check` of the kind.
+    fn check(shape: Shape, memory: &[Self::Cell]) -> Result<(), Refused>;
+
+    /// The `new` of the kind.
+    fn make(shape: Shape, memory: &'a mut [Self::Cell]) -> Self
+        ensures { Self.Links.made result };
+}
+
+impl<'a> BookKind<'a> for BitMatrix<'a> {
+    type Cell = u64;
+
+    const NAME: &'static str = "bit matrix";
+
+    const HAS_ROW_LIMIT: bool = false;
+
+    fn noise() -> u64 {
+        0x5555
+    }
+
+    fn need(shape: Shape) -> usize {
+        shape.size.saturating_mul(shape.size.div_ceil(64))
+    }
+
+    fn fresh_spare(shape: Shape) -> usize {
+        shape.size.saturating_sub(1)
+    }
+
+    fn check(shape: Shape, memory: &[u64]) -> Result<(), Refused> {
+        BitMatrix::check(shape.size, shape.limit, memory)
+    }
+
+    fn make(shape: Shape, memory: &'a mut [u64]) -> BitMatrix<'a> {
+        BitMatrix::new(shape.size, shape.limit, memory)
+    }
+}
+
+impl<'a> BookKind<'a> for SortedRows<'a> {
+    type Cell = u16;
+
+    const NAME: &'static str = "sorted rows";
+
+    const HAS_ROW_LIMIT: bool = true;
+
+    fn noise() -> u16 {
+        0x5555
+    }
+
+    fn need(shape: Shape) -> usize {
+        shape.size.saturating_mul(shape.row_limit.saturating_add(1))
+    }
+
+    fn fresh_spare(shape: Shape) -> usize {
+        shape.row_limit
+    }
+
+    fn check(shape: Shape, memory: &[u16]) -> Result<(), Refused> {
+        SortedRows::check(shape.size, shape.row_limit, shape.limit, memory)
+    }
+
+    fn make(shape: Shape, memory: &'a mut [u16]) -> SortedRows<'a> {
+        SortedRows::new(shape.size, shape.row_limit, shape.limit, memory)
+    }
+}
+
+/// Calls a macro for every kind of book, with the type and with the tokens given. **A new kind of
+/// book is one line here.**
+#[macro_export]
+macro_rules! each_kind_of_book {
+    ($call:ident $given:tt) => {
+        $call!($crate::BitMatrix, $given);
+        $call!($crate::SortedRows, $given);
+    };
+}
