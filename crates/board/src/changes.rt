@@ -7,7 +7,7 @@ ghost use Rattle.board.specs.Leaving.{RemovesLinks};
 ghost use Rattle.board.specs.Parting.{PartsPartners};
 
 use crate::{Board, repair_of};
-use links::{Book, Layer, Links, Refusal, Refused, check_two};
+use links::{Book, Layer, Links, MOST_LOADS, Refusal, Refused, check_two};
 use ranking::Ranking;
 use tables::Tables;
 
@@ -30,7 +30,7 @@ fn remove_links<B: Book>(book: &mut B, tables: &mut Tables, a: usize)
 {
     let mut from = 0;
     while let Some(b) = book.next_linked(a, from) {
-        if b < from || b >= 256 {
+        if b < from || b >= MOST_LOADS {
             return;
         }
         let Ok(()) = book.remove(a, b) else {

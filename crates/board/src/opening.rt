@@ -7,7 +7,7 @@ ghost use Rattle.board.specs.Recording.{AllFree, links_before};
 
 use crate::{Board, repair_of};
 use links::members::linked_loads;
-use links::{Book, Links};
+use links::{Book, Links, MOST_LOADS};
 use ranking::Ranking;
 use std::array;
 use tables::Tables;
@@ -50,8 +50,8 @@ impl<B: Book, R: Ranking> Board<B, R> {
         ensures law { B.Links.made book →
             Law B.Links.graph B.Links.made B.Book.ledger B.Book.fixed R.Ranking.before result }
     {
-        let size = book.size().min(256);
-        let loads: [usize; 256] = array::from_fn(|load| load);
+        let size = book.size().min(MOST_LOADS);
+        let loads: [usize; MOST_LOADS] = array::from_fn(|load| load);
         let mut tables = recorded(&book, size);
         repair_of(&book, &ranking).repair(&mut tables, &loads[..size]);
         Board {

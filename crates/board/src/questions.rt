@@ -4,7 +4,7 @@ ghost use Rattle.rules.specs.Calls.{ask_partner, ask_free_links, ask_next_free, 
 ghost use Rattle.board.specs.Boards.{Steps};
 
 use crate::Board;
-use links::{Book, Refused};
+use links::{Book, MOST_LOADS, Refused};
 use ranking::Ranking;
 
 impl<B: Book, R: Ranking> Board<B, R> {
@@ -13,7 +13,7 @@ impl<B: Book, R: Ranking> Board<B, R> {
     pub fn partner(&self, a: usize) -> Result<Option<usize>, Refused>
         ensures answers { Steps B.Links.graph B.Links.made B.Book.ledger B.Book.fixed
             R.Ranking.before self.now (ask_partner a) result self.now }
-        ensures bound { IfOk result (λ o. IfSome o (λ b. b < 256)) }
+        ensures bound { IfOk result (λ o. IfSome o (λ b. b < MOST_LOADS)) }
     {
         self.check_load(a)?;
         Ok(self.tables.partner(a))

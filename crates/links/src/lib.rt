@@ -124,14 +124,16 @@ pub fn check_within(n: usize, most: usize, refusal: Refusal) -> Result<(), Refus
 
 /// Whether there can be so many loads: a book refuses with 1 unless they are 1 to 256.
 pub fn check_size(size: usize) -> Result<(), Refused>
-    ensures { Answers (unless_size size None) result (λ _. Unit {0}) }
+    ensures most { MOST_LOADS ≡ 256 }
+    ensures answers { Answers (unless_size size None) result (λ _. Unit {0}) }
 {
     check_within(size, MOST_LOADS, Refusal::SizeOutOfRange)
 }
 
 /// Whether a book can have this limit: it refuses with 2 unless that is 1 to 32,640.
 pub fn check_limit(limit: usize) -> Result<(), Refused>
-    ensures { Answers (unless_limit limit None) result (λ _. Unit {0}) }
+    ensures most { MOST_LINKS ≡ 32640 }
+    ensures answers { Answers (unless_limit limit None) result (λ _. Unit {0}) }
 {
     check_within(limit, MOST_LINKS, Refusal::LimitOutOfRange)
 }

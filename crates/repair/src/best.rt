@@ -3,8 +3,8 @@ ghost use Rattle.repair.specs.Best.{BestOf, FirstLinked};
 ghost use Rattle.repair.specs.OnLinks.{OnLinks};
 
 use crate::Repair;
-use links::Links;
 use links::members::{MembersInOrder, NextMember, linked_loads};
+use links::{Links, MOST_LOADS};
 use ranking::Ranking;
 
 // The first in a's ranking of the members that pass the test.
@@ -34,6 +34,6 @@ impl<L: Links, R: Ranking> Repair<'_, L, R> {
         ensures { OnLinks L.Links.made L.Links.graph R.Ranking.before self.now
             (λ before t g. FirstLinked before g a (F.post test) result) }
     {
-        best_of(self.ranking, a, linked_loads(self.links, a, 256), test)
+        best_of(self.ranking, a, linked_loads(self.links, a, MOST_LOADS), test)
     }
 }

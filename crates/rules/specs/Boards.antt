@@ -16,8 +16,7 @@ use Rattle.rules.specs.Threshold.{threshold}
 
 abbrev pub Thresholds : Type 0
 Thresholds =
-    (threshold 1 ≡ 2) × (threshold 8 ≡ 4) × (threshold 2048 ≡ 64)
-    × (threshold MOST_LINKS ≡ MOST_LOADS)
+    (threshold 1 ≡ 2) × (threshold 8 ≡ 4) × (threshold 2048 ≡ 64) × (threshold 32640 ≡ 256)
 
 -- ---- how boards are played and read
 

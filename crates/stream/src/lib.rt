@@ -12,13 +12,13 @@ ghost use Rattle.stream.specs.Steps.{stepping, Steps};
 
 use board::Board;
 use commands::{Command, check_length, read};
-use links::{Book, Layer, Links, Refusal, Refused};
+use links::{Book, Layer, Links, MOST_LOADS, Refusal, Refused};
 use outputs::write_start;
 use ranking::Ranking;
 use replies::{LONGEST_LINE, LONGEST_PAIR, Reply, write_pair};
 
 // There is at most a line for each of 256 loads.
-const LONGEST_LIST: usize = 256 * LONGEST_PAIR;
+const LONGEST_LIST: usize = MOST_LOADS * LONGEST_PAIR;
 
 /// What a step came to.
 #[derive(Clone, Copy, PartialEq, Eq, Debug)]
@@ -39,7 +39,7 @@ fn done(answer: Result<(), Refused>) -> Result<Reply, Refused>
 
 // The reply to a question for a partner. A partner is one of 256 loads.
 fn partner_reply(partner: Option<usize>) -> Reply
-    requires { IfSome partner (λ b. b < 256) }
+    requires { IfSome partner (λ b. b < MOST_LOADS) }
     ensures { result ≡ partner_reply partner }
 {
     match partner {
@@ -111,8 +111,8 @@ pub fn step<B: Book, R: Ranking>(
 
 // Writes the line of a load and its partner where that is the higher one, and answers its length.
 fn write_lower(a: usize, partner: Option<usize>, out: &mut [u8]) -> Result<usize, Refused>
-    requires load { a < 256 }
-    requires partner { IfSome partner (λ b. b < 256) }
+    requires load { a < MOST_LOADS }
+    requires partner { IfSome partner (λ b. b < MOST_LOADS) }
     ensures writes { Writes (lower_line a partner) out.old result out.new }
     ensures short { length (lower_line a partner)
         ≤ (if below_partner a partner then LONGEST_PAIR else 0) }
@@ -144,7 +144,7 @@ pub fn list_pairs<B: Book, R: Ranking>(
     }
     let mut lines = [0; LONGEST_LIST];
     let mut written = 0;
-    for a in 0..board.book().size().min(256) {
+    for a in 0..board.book().size().min(MOST_LOADS) {
         let partner = board.partner(a).unwrap_or(None);
         written += write_lower(a, partner, &mut lines[written..])?;
     }

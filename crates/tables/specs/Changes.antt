@@ -5,6 +5,7 @@ use Rattle.std.specs.Prelude.{◌==◌, ◌≢◌, if◌then◌else◌}
 use Rattle.graph.specs.Graph.{Graph, Simple, is_pair, added, removed}
 use Rattle.graph.specs.Matching.{Free}
 use Rattle.graph.specs.Pairs.{is_free}
+use Rattle.graph.specs.declared.TheConstants.{MOST_LOADS}
 use Rattle.rules.specs.Repair.{paired, freed}
 use Rattle.tables.specs.declared.Tables.{Tables}
 use Rattle.tables.specs.Views.{partners_of, degree_of, free_degree_of, free_linked, Agrees}
@@ -37,7 +38,7 @@ pub record Relinked (on : Bool) (a b : ℕ) (s t : Tables) : Type 0 where
 -- that has gained the link, or has lost it
 pub record Relinking (on : Bool) (a b : ℕ) (s t : Tables) : Type 0 where
   pub partners : partners_of t ≡ partners_of s
-  pub relinks : a < 256 → b < 256 → Relinked on a b s t
+  pub relinks : a < MOST_LOADS → b < MOST_LOADS → Relinked on a b s t
   pub agrees : (g : Graph) → Simple g → a < g.size → b < g.size → (a ≢ b)
       → g.linked a b ≡ not on → Agrees g s → Agrees (relinked on g a b) t
 
@@ -54,29 +55,31 @@ pub record Told (g : Graph) (a : ℕ) (free-a : Bool) (b : ℕ) (free-b : Bool)
 
 -- a and b, free before, become partners
 pub record Pairing (g : Graph) (a b : ℕ) (s t : Tables) : Type 0 where
-  pub partners : a < 256 → b < 256 → partners_of t ≡ paired a b (partners_of s)
-  pub told : a < 256 → b < 256 → Told g a false b false s t
+  pub partners : a < MOST_LOADS → b < MOST_LOADS → partners_of t ≡ paired a b (partners_of s)
+  pub told : a < MOST_LOADS → b < MOST_LOADS → Told g a false b false s t
   pub agrees : a < g.size → b < g.size → (a ≢ b) → Free (partners_of s) a → Free (partners_of s) b
       → Agrees g s → Agrees g t
 
 -- a and b, partners before, become free
 pub record Parting (g : Graph) (a b : ℕ) (s t : Tables) : Type 0 where
-  pub partners : a < 256 → b < 256 → partners_of t ≡ freed a (freed b (partners_of s))
-  pub told : a < 256 → b < 256 → Told g a true b true s t
+  pub partners : a < MOST_LOADS → b < MOST_LOADS → partners_of t ≡ freed a (freed b (partners_of s))
+  pub told : a < MOST_LOADS → b < MOST_LOADS → Told g a true b true s t
   pub agrees : (a ≢ b) → partners_of s a ≡ Some b → partners_of s b ≡ Some a
       → Agrees g s → Agrees g t
 
 -- x and y, partners before, become those of a and z, free before
 pub record Exchanging (g : Graph) (a x y z : ℕ) (s t : Tables) : Type 0 where
-  pub partners : a < 256 → x < 256 → y < 256 → z < 256
+  pub partners : a < MOST_LOADS → x < MOST_LOADS → y < MOST_LOADS → z < MOST_LOADS
       → partners_of t ≡ paired y z (paired a x (partners_of s))
-  pub told : a < 256 → x < 256 → y < 256 → z < 256 → Told g a false z false s t
+  pub told : a < MOST_LOADS → x < MOST_LOADS → y < MOST_LOADS → z < MOST_LOADS
+      → Told g a false z false s t
   pub agrees : a < g.size → z < g.size → (a ≢ z) → Free (partners_of s) a → Free (partners_of s) z
       → partners_of s x ≡ Some y → partners_of s y ≡ Some x → Agrees g s → Agrees g t
 
 -- a, free before, becomes the partner of x in place of y, which becomes free
 pub record Replacing (g : Graph) (a x y : ℕ) (s t : Tables) : Type 0 where
-  pub partners : a < 256 → x < 256 → y < 256 → partners_of t ≡ freed y (paired a x (partners_of s))
-  pub told : a < 256 → x < 256 → y < 256 → Told g a false y true s t
+  pub partners : a < MOST_LOADS → x < MOST_LOADS → y < MOST_LOADS
+      → partners_of t ≡ freed y (paired a x (partners_of s))
+  pub told : a < MOST_LOADS → x < MOST_LOADS → y < MOST_LOADS → Told g a false y true s t
   pub agrees : a < g.size → Free (partners_of s) a → partners_of s x ≡ Some y
       → partners_of s y ≡ Some x → Agrees g s → Agrees g t

@@ -3,6 +3,7 @@ use Rattle.std.specs.Prelude.{◌≡◌, ℕ, ◌≤◌, Bool, ◌&&◌, [], Non
 use Rattle.graph.specs.Graph.{Graph, count, degree, no_links}
 use Rattle.graph.specs.Matching.{Partners}
 use Rattle.graph.specs.Pairs.{has_partner, is_free}
+use Rattle.graph.specs.declared.TheConstants.{MOST_LOADS}
 use Rattle.bits.specs.Words.{member}
 use Rattle.tables.specs.declared.Record.{Record}
 use Rattle.tables.specs.declared.LoadSet.{LoadSet}
@@ -39,7 +40,7 @@ free_linked t a b = has (slice_index_or t.free a empty) b
 
 -- how many loads are recorded as having a partner
 unfoldable pub matched_of : Tables → ℕ
-matched_of t = count 256 (has_partner (partners_of t))
+matched_of t = count MOST_LOADS (has_partner (partners_of t))
 
 -- links and free links are those of the graph g, where `free` says which loads are free
 pub record Tracks (g : Graph) (free : ℕ → Bool) (t : Tables) : Type 0 where

@@ -9,7 +9,7 @@ ghost use Rattle.tables.specs.Changes.{OfLinks, Relinking, Pairing, Parting};
 ghost use Rattle.tables.specs.Changes.{Exchanging, Replacing};
 
 use crate::Tables;
-use links::Links;
+use links::{Links, MOST_LOADS};
 use links::members::linked_loads;
 
 // One more or one less.
@@ -56,7 +56,7 @@ impl Tables {
     // a and b get their link, or lose it.
     fn relink(&mut self, a: usize, b: usize, on: bool)
         ensures changed { Relinking on a b self.old self.new }
-        ensures ignored { (256 ≤ a) ⊎ (256 ≤ b) → self.new ≡ self.old }
+        ensures ignored { (MOST_LOADS ≤ a) ⊎ (MOST_LOADS ≤ b) → self.new ≡ self.old }
     {
         if let (Ok(a), Ok(b)) = (u8::try_from(a), u8::try_from(b)) {
             self.put_link(a, b, on);
@@ -69,7 +69,7 @@ impl Tables {
     /// linked. Does nothing where a number is not below 256. Writes the records and sets of both.
     pub fn link(&mut self, a: usize, b: usize)
         ensures changed { Relinking true a b self.old self.new }
-        ensures ignored { (256 ≤ a) ⊎ (256 ≤ b) → self.new ≡ self.old }
+        ensures ignored { (MOST_LOADS ≤ a) ⊎ (MOST_LOADS ≤ b) → self.new ≡ self.old }
     {
         self.relink(a, b, true);
     }
@@ -80,7 +80,7 @@ impl Tables {
     /// both.
     pub fn unlink(&mut self, a: usize, b: usize)
         ensures changed { Relinking false a b self.old self.new }
-        ensures ignored { (256 ≤ a) ⊎ (256 ≤ b) → self.new ≡ self.old }
+        ensures ignored { (MOST_LOADS ≤ a) ⊎ (MOST_LOADS ≤ b) → self.new ≡ self.old }
     {
         self.relink(a, b, false);
     }
@@ -90,7 +90,7 @@ impl Tables {
         ensures { OfLinks (L.Links.made links.now) (L.Links.graph links.now)
             (λ g. Stepped on (λ _. false) (g.linked a) a self.old self.new) }
     {
-        for x in linked_loads(links, usize::from(a), 256) {
+        for x in linked_loads(links, usize::from(a), MOST_LOADS) {
             self.tell(x as u8, a, on);
         }
     }
@@ -115,7 +115,7 @@ impl Tables {
     pub fn pair<L: Links>(&mut self, links: &L, a: usize, b: usize)
         ensures changed { OfLinks (L.Links.made links.now) (L.Links.graph links.now)
             (λ g. Pairing g a b self.old self.new) }
-        ensures ignored { (256 ≤ a) ⊎ (256 ≤ b) → self.new ≡ self.old }
+        ensures ignored { (MOST_LOADS ≤ a) ⊎ (MOST_LOADS ≤ b) → self.new ≡ self.old }
     {
         if let (Ok(a), Ok(b)) = (u8::try_from(a), u8::try_from(b)) {
             self.write_pair(a, b);
@@ -129,7 +129,7 @@ impl Tables {
     pub fn part<L: Links>(&mut self, links: &L, a: usize, b: usize)
         ensures changed { OfLinks (L.Links.made links.now) (L.Links.graph links.now)
             (λ g. Parting g a b self.old self.new) }
-        ensures ignored { (256 ≤ a) ⊎ (256 ≤ b) → self.new ≡ self.old }
+        ensures ignored { (MOST_LOADS ≤ a) ⊎ (MOST_LOADS ≤ b) → self.new ≡ self.old }
     {
         if let (Ok(a), Ok(b)) = (u8::try_from(a), u8::try_from(b)) {
             self.write_partner(b, None);
@@ -146,7 +146,8 @@ impl Tables {
     pub fn exchange<L: Links>(&mut self, links: &L, a: usize, x: usize, y: usize, z: usize)
         ensures changed { OfLinks (L.Links.made links.now) (L.Links.graph links.now)
             (λ g. Exchanging g a x y z self.old self.new) }
-        ensures ignored { (256 ≤ a) ⊎ (256 ≤ x) ⊎ (256 ≤ y) ⊎ (256 ≤ z) → self.new ≡ self.old }
+        ensures ignored { (MOST_LOADS ≤ a) ⊎ (MOST_LOADS ≤ x) ⊎ (MOST_LOADS ≤ y) ⊎ (MOST_LOADS ≤ z)
+            → self.new ≡ self.old }
     {
         if let (Ok(a), Ok(x), Ok(y), Ok(z)) = (
             u8::try_from(a),
@@ -168,7 +169,8 @@ impl Tables {
     pub fn replace<L: Links>(&mut self, links: &L, a: usize, x: usize, y: usize)
         ensures changed { OfLinks (L.Links.made links.now) (L.Links.graph links.now)
             (λ g. Replacing g a x y self.old self.new) }
-        ensures ignored { (256 ≤ a) ⊎ (256 ≤ x) ⊎ (256 ≤ y) → self.new ≡ self.old }
+        ensures ignored { (MOST_LOADS ≤ a) ⊎ (MOST_LOADS ≤ x) ⊎ (MOST_LOADS ≤ y)
+            → self.new ≡ self.old }
     {
         if let (Ok(a), Ok(x), Ok(y)) = (u8::try_from(a), u8::try_from(x), u8::try_from(y)) {
             self.write_pair(a, x);

@@ -4,6 +4,7 @@ ghost use Rattle.tables.specs.Views.{free_linked};
 ghost use Rattle.tables.specs.FreeLoads.{OverFree};
 
 use crate::Tables;
+use links::MOST_LOADS;
 use links::members::{MembersInOrder, NextMember};
 
 /// The free loads that a load is linked to, as a set that can be asked for its next member.
@@ -36,7 +37,7 @@ impl Tables {
                 load: a,
             },
             0,
-            256,
+            MOST_LOADS,
         )
     }
 }

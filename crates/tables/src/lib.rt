@@ -9,6 +9,8 @@ mod questions;
 /// The free loads that a load is linked to, in rising order.
 pub mod free_loads;
 
+use links::MOST_LOADS;
+
 /// What is kept of a load: its partner, if it has one, its degree, which is how many links it has,
 /// and its free degree, which is how many of them lead to free loads. On a board both are at most
 /// 255.
@@ -35,7 +37,7 @@ pub struct LoadSet {
 /// their answers say what was told, and no more.
 #[derive(Debug, Drop)]
 pub struct Tables {
-    records: [Record; 256],
+    records: [Record; MOST_LOADS],
     // for each load, the free loads that it is linked to
-    free: [LoadSet; 256],
+    free: [LoadSet; MOST_LOADS],
 }

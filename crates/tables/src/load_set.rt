@@ -5,6 +5,7 @@ ghost use Rattle.tables.specs.Views.{has};
 
 use crate::LoadSet;
 use bits::{next_member, put_bit};
+use links::MOST_LOADS;
 
 impl LoadSet {
     // Puts b into the set, or takes it out: afterwards `present` says whether it is a member.
@@ -19,7 +20,7 @@ impl LoadSet {
     // The smallest member at or above `from`.
     pub(super) fn next(&self, from: usize) -> Option<usize>
         ensures value { Next (has self.now) from result }
-        ensures bound { IfSome result (λ b. b < 256) }
+        ensures bound { IfSome result (λ b. b < MOST_LOADS) }
     {
         next_member(&self.words, from)
     }

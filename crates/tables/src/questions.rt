@@ -6,6 +6,7 @@ ghost use Rattle.tables.specs.Views.{record_of, partners_of, degree_of, free_deg
 ghost use Rattle.tables.specs.Views.{free_linked, matched_of, New};
 
 use crate::{LoadSet, Record, Tables};
+use links::MOST_LOADS;
 
 // The record of a load that is free and has no links.
 const BLANK: Record = Record {
@@ -20,8 +21,8 @@ impl Tables {
         ensures { New result }
     {
         Tables {
-            records: [BLANK; 256],
-            free: [LoadSet { words: [0; 4] }; 256],
+            records: [BLANK; MOST_LOADS],
+            free: [LoadSet { words: [0; 4] }; MOST_LOADS],
         }
     }
 
@@ -35,7 +36,7 @@ impl Tables {
     /// The partner of `a`, if it has one; none where `a` is not below 256. Looks at one record.
     pub fn partner(&self, a: usize) -> Option<usize>
         ensures value { result ≡ partners_of self.now a }
-        ensures bound { IfSome result (λ b. b < 256) }
+        ensures bound { IfSome result (λ b. b < MOST_LOADS) }
     {
         self.record(a).partner.map(usize::from)
     }
@@ -77,7 +78,7 @@ impl Tables {
     /// `a` or `from` is not below 256. Looks at up to four words.
     pub fn next_free_linked(&self, a: usize, from: usize) -> Option<usize>
         ensures value { Next (free_linked self.now a) from result }
-        ensures bound { IfSome result (λ b. b < 256) }
+        ensures bound { IfSome result (λ b. b < MOST_LOADS) }
     {
         self.free.get(a)?.next(from)
     }

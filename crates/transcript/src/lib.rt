@@ -12,7 +12,7 @@ ghost use Rattle.transcript.specs.Worked.{WorkedStream};
 
 use bit_matrix::BitMatrix;
 use board::Board;
-use links::{Book, Refused};
+use links::{Book, MOST_LOADS, Refused};
 use ranking::{ByNumber, Ranking};
 use replies::{LONGEST_LINE, LONGEST_PAIR};
 use std::alloc::{AllocError, Global};
@@ -20,8 +20,11 @@ use std::error::Error;
 use std::fmt;
 use stream::{list_pairs, step};
 
-// 256 loads have at most 128 pairs.
-const LONGEST_LIST: usize = 128 * LONGEST_PAIR;
+// The most links of the board.
+const LINK_LIMIT: usize = 2_048;
+
+// Each pair has two of the loads.
+const LONGEST_LIST: usize = MOST_LOADS / 2 * LONGEST_PAIR;
 
 /// Why there is no transcript.
 #[derive(Clone, Copy, PartialEq, Eq, Debug)]
@@ -128,7 +131,8 @@ pub fn transcript(heap: Global, input: &[u8]) -> Result<Vec<u8>, Failure>
     ensures law { KeepsLaw input.now }
 {
     let mut words = [0; 1024];
-    let mut board = Board::open(BitMatrix::new(256, 2048, &mut words), ByNumber);
+    let book = BitMatrix::new(MOST_LOADS, LINK_LIMIT, &mut words);
+    let mut board = Board::open(book, ByNumber);
     let mut text = Vec::new(heap);
     play_all(&mut board, input, &mut text)?;
     push_pairs(&board, &mut text)?;
