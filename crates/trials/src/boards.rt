@@ -33,16 +33,11 @@ macro_rules! play_kind {
         for ranking in RANKINGS {
             let some = $trial.random.pick(&[Filters::One, Filters::Two]);
             for filters in [Filters::None, some.unwrap_or(Filters::Two)] {
-                let book = <$kind as BookKind>::NAME;
-                let kind = Kind {
-                    book,
-                    filters,
-                    ranking,
-                };
+                let kind = Kind { filters, ranking };
                 let mut memory = vec![in $trial.alloc; <$kind as BookKind>::noise(); need]?;
                 $trial
                     .play_setting::<$kind>($setting, kind, &mut memory)
-                    .context(format_args!("{kind:?}"))?;
+                    .context(format_args!("{}, {kind:?}", <$kind as BookKind>::NAME))?;
             }
         }
     };

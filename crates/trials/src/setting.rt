@@ -20,10 +20,9 @@ pub enum Filters {
     Two,
 }
 
-// What a board stands on.
+// What a board has besides its book.
 #[derive(Clone, Copy, Debug)]
 pub struct Kind {
-    pub book: &'static str,
     pub filters: Filters,
     pub ranking: RankingKind,
 }
