@@ -9,10 +9,10 @@ pub returns-clause-ends : goal.returns-clause-ends
 returns-clause-ends c =
     let opens = c.open-board.ensures.opens in
     let played = c.in_ok-play_all.ensures in
-    let plays = played.1 (opens.stands c.new.ensures.made) in
+    let plays = played.1 (opens.stands c.new-book.ensures.made) in
     let x = position matrix_graph matrix_ledger c.open-board.result in
     let all = transcribed x c.args.input.now (vec_items c.new-text.result) (vec_items c.play_all.new.text) (vec_items c.push_pairs.new.text)
-    (started refl c.new.ensures.making.0 opens) c.new-text.ensures.items plays (c.in_ok-push_pairs.ensures plays.stands).1 in
+    (started refl c.new-book.ensures.making.0 opens) c.new-text.ensures.items plays (c.in_ok-push_pairs.ensures plays.stands).1 in
     (played.0, all)
 
 pub returns-clause-law : goal.returns-clause-law
