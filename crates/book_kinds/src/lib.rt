@@ -1,11 +1,10 @@
 //! The kinds of book, for the tests and trials that run over every one of them.
 #![tactic(auto)]
 
-use links::{Book, Refused};
-use std::fmt::Debug;
-
 pub use bit_matrix::BitMatrix;
+use links::{Book, Refused};
 pub use sorted_rows::SortedRows;
+use std::fmt::Debug;
 
 /// What a book is made for. A kind without a row limit leaves that out of account.
 #[derive(Clone, Copy, Debug)]

@@ -9,8 +9,8 @@ ghost use Rattle.tables.specs.Changes.{OfLinks, Relinking, Pairing, Parting};
 ghost use Rattle.tables.specs.Changes.{Exchanging, Replacing};
 
 use crate::Tables;
-use links::{Links, MOST_LOADS};
 use links::members::linked_loads;
+use links::{Links, MOST_LOADS};
 
 // One more or one less.
 fn step(n: u16, up: bool) -> u16
