@@ -19,7 +19,9 @@ pub enum Call {
 /// A call, and the place after its bytes.
 #[derive(Clone, Copy, PartialEq, Eq, Debug)]
 pub struct CallAt {
+    /// The call.
     pub call: Call,
+    /// The place after its bytes.
     pub next: usize,
 }
 

@@ -2,8 +2,9 @@
 ghost use Rattle.std.specs.Prelude.{◌<◌, ◌≤◌};
 
 /// By the lower number, or by the smaller detour and then the lower number.
-#[derive(Drop)]
+#[derive(Debug, Drop)]
 pub enum Order {
+    /// The lower number first.
     ByNumber,
     /// The place of each load; a load without one is at 0, 0.
     ByDetour(Vec<(i32, i32)>),

@@ -8,7 +8,7 @@ use links::{Layer, Refusal, Refused};
 use std::alloc::{AllocError, Global};
 
 /// A book, the order by which its loads choose, the partners, and what the repairs did so far.
-#[derive(Drop)]
+#[derive(Debug, Drop)]
 pub struct Pairing {
     pub(crate) book: PlainBook,
     pub(crate) order: Order,
@@ -193,7 +193,7 @@ impl Pairing {
     }
 
     /// The number of pairs: each counts at its lower load.
-    pub fn pairs(&self) -> usize
+    pub fn pair_count(&self) -> usize
         ensures { result ≤ vec_len self.now.book.spares }
     {
         let loads = 0..self.book.size();

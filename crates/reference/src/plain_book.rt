@@ -6,7 +6,7 @@ use std::alloc::{AllocError, Global};
 use std::collections::BTreeSet;
 
 /// Links, barred pairs, and how many more links each load and the book may take.
-#[derive(Drop)]
+#[derive(Debug, Drop)]
 pub struct PlainBook {
     limit: usize,
     links: BTreeSet<(usize, usize)>,

@@ -7,9 +7,11 @@ use links::{Layer, Refusal, Refused};
 use std::alloc::{AllocError, Global};
 
 /// The line of a step, and the place after it.
-#[derive(Drop)]
+#[derive(Debug, Drop)]
 pub struct Step {
+    /// The line, with its line feed.
     pub line: String,
+    /// The place after the step.
     pub next: usize,
 }
 
@@ -64,7 +66,7 @@ impl Pairing {
         alloc: Global,
         room: usize,
     ) -> Result<Result<String, Refused>, AllocError> {
-        if room < self.pairs().saturating_mul(8) {
+        if room < self.pair_count().saturating_mul(8) {
             return Ok(Err(Refusal::OutputTooShort.by(Layer::Stream)));
         }
         let mut lines = String::new(alloc);

@@ -34,6 +34,11 @@ impl<L: Links, R: Ranking> Repair<'_, L, R> {
         ensures { OnLinks L.Links.made L.Links.graph R.Ranking.before self.now
             (λ before t g. FirstLinked before g a (F.post test) result) }
     {
-        best_of(self.ranking, a, linked_loads(self.links, a, MOST_LOADS), test)
+        best_of(
+            self.ranking,
+            a,
+            linked_loads(self.links, a, MOST_LOADS),
+            test,
+        )
     }
 }

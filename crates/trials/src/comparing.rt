@@ -81,7 +81,7 @@ fn same_free_walk<B: Book, R: Ranking>(
 // Every question about a board, for every load and the first two numbers past them.
 pub fn same_board<B: Book, R: Ranking>(board: &Board<B, R>, pairing: &Pairing) -> Result<()> {
     same_book(board.book(), pairing.book())?;
-    same("pairs", board.pair_count(), pairing.pairs())?;
+    same("pairs", board.pair_count(), pairing.pair_count())?;
     for a in 0..pairing.book().size().saturating_add(2) {
         same("partner", board.partner(a), pairing.partner(a))?;
         same("free links", board.free_links(a), pairing.free_links(a))?;
