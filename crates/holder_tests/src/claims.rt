@@ -23,10 +23,19 @@ fn verdicts(rt: HostRuntime) {
         assert_eq!(rt; book.add(a, a + 1), Ok(()));
     }
     let cases = [
-        ([NO_PARTNER, 2, 1, NO_PARTNER], Verdict::PathOfThree((0, 1, 2, 3))),
+        (
+            [NO_PARTNER, 2, 1, NO_PARTNER],
+            Verdict::PathOfThree((0, 1, 2, 3)),
+        ),
         ([NO_PARTNER, NO_PARTNER, 3, 2], Verdict::PathOfOne((0, 1))),
-        ([NO_PARTNER, 0, NO_PARTNER, NO_PARTNER], Verdict::NotReturned(1)),
-        ([4, NO_PARTNER, NO_PARTNER, NO_PARTNER], Verdict::NotReturned(0)),
+        (
+            [NO_PARTNER, 0, NO_PARTNER, NO_PARTNER],
+            Verdict::NotReturned(1),
+        ),
+        (
+            [4, NO_PARTNER, NO_PARTNER, NO_PARTNER],
+            Verdict::NotReturned(0),
+        ),
         ([2, NO_PARTNER, 0, NO_PARTNER], Verdict::NotLinked(0)),
         ([0, 2, 1, NO_PARTNER], Verdict::NotLinked(0)),
         ([1, 0, 3, 2], Verdict::Sound),
