@@ -1,6 +1,14 @@
 //! The kinds of book, for the tests and trials that run over every one of them.
 #![tactic(auto)]
 
+ghost use Rattle.std.specs.Prelude.{◌≡◌, ℕ, ◌-◌, length, None, Option};
+ghost use Rattle.graph.specs.Graph.{no_links};
+ghost use Rattle.links.specs.Books.{Stands, fresh_ledger};
+ghost use Rattle.links.specs.Refusals.{Reason, Answers};
+ghost use Rattle.bit_matrix.specs.Matrix.{checking as matrix_checking};
+ghost use Rattle.sorted_rows.specs.Rows.{checking as rows_checking};
+ghost use Rattle.book_kinds.specs.declared.Shape.{Shape};
+
 pub use bit_matrix::BitMatrix;
 use links::{Book, Refused};
 pub use sorted_rows::SortedRows;
@@ -20,6 +28,12 @@ pub struct Shape {
 /// A book that is made in lent memory. The numbers here are for tests: they are worked out apart
 /// from the crate of the book.
 pub trait BookKind<'a>: Book + Drop {
+    /// The first reason to refuse the making of a book of this shape in so many cells.
+    ghost checking: { Shape → ℕ → Option Reason };
+
+    /// How many links each load of a fresh book may take.
+    ghost spares: { Shape → ℕ };
+
     /// A word or a number of the memory.
     type Cell: Clone + Copy + PartialEq + Debug + Drop;
 
@@ -39,14 +53,22 @@ pub trait BookKind<'a>: Book + Drop {
     fn fresh_spare(shape: Shape) -> usize;
 
     /// The `check` of the kind.
-    fn check(shape: Shape, memory: &[Self::Cell]) -> Result<(), Refused>;
+    fn check(shape: Shape, memory: &[Self::Cell]) -> Result<(), Refused>
+        ensures { Answers (checking shape (length memory.now)) result (λ _. Unit {0}) };
 
-    /// The `new` of the kind.
+    /// The `new` of the kind: a fresh book, where `check` finds no reason to refuse it.
     fn make(shape: Shape, memory: &'a mut [Self::Cell]) -> Self
-        ensures { Self.Links.made result };
+        ensures made { Self.Links.made result }
+        ensures fresh { checking shape (length memory.old) ≡ None →
+            Stands Self.Links.graph Self.Links.made Self.Book.ledger result
+            (no_links shape.size) (fresh_ledger shape.size (spares shape) shape.limit) };
 }
 
 impl<'a> BookKind<'a> for BitMatrix<'a> {
+    ghost checking = { λ s cells. matrix_checking s.size s.limit cells };
+
+    ghost spares = { λ s. s.size - 1 };
+
     type Cell = u64;
 
     const NAME: &'static str = "bit matrix";
@@ -65,7 +87,10 @@ impl<'a> BookKind<'a> for BitMatrix<'a> {
         shape.size.saturating_sub(1)
     }
 
-    fn check(shape: Shape, memory: &[u64]) -> Result<(), Refused> {
+    fn check(shape: Shape, memory: &[u64]) -> Result<(), Refused>
+        ensures { Answers (matrix_checking shape.size shape.limit (length memory.now))
+            result (λ _. Unit {0}) }
+    {
         BitMatrix::check(shape.size, shape.limit, memory)
     }
 
@@ -75,6 +100,10 @@ impl<'a> BookKind<'a> for BitMatrix<'a> {
 }
 
 impl<'a> BookKind<'a> for SortedRows<'a> {
+    ghost checking = { λ s cells. rows_checking s.size s.row_limit s.limit cells };
+
+    ghost spares = { λ s. s.row_limit };
+
     type Cell = u16;
 
     const NAME: &'static str = "sorted rows";
@@ -93,7 +122,11 @@ impl<'a> BookKind<'a> for SortedRows<'a> {
         shape.row_limit
     }
 
-    fn check(shape: Shape, memory: &[u16]) -> Result<(), Refused> {
+    fn check(shape: Shape, memory: &[u16]) -> Result<(), Refused>
+        ensures { Answers
+            (rows_checking shape.size shape.row_limit shape.limit (length memory.now))
+            result (λ _. Unit {0}) }
+    {
         SortedRows::check(shape.size, shape.row_limit, shape.limit, memory)
     }
 
