@@ -1,5 +1,5 @@
 -- Calls that add, on any book.
-use Rattle.std.proofs.Common.{◌≡◌, ℕ, Bool, true, Some, None, Ok, Err, Option, Result, sym, refl, ap, ◌∙◌, subst, ap₂, arith}
+use Rattle.std.proofs.Common.{◌≡◌, ℕ, Some, None, Ok, Err, Option, Result, sym, refl, ◌∙◌, subst, arith}
 use Rattle.graph.specs.Graph.{Graph, added, removed}
 use Rattle.links.specs.declared.refusal.Refused.{Refused}
 use Rattle.links.specs.Books.{Ledger, Stands, Adds, Removes, adding, removing, lowered, raised, by_book}
@@ -8,11 +8,6 @@ use Rattle.book_examples.specs.Answers.{GrantedThenRefused}
 
 no_reason : (r : Reason) → ◌≡◌ {A = Option Reason} (Some r) None → ⊥
 no_reason r e = let z : ◌≡◌ {A = ℕ} 0 1 = cc in omega arith
-
--- an answer under no reason to refuse is granted
-pub asked : (reason : Option Reason) (r : Result Bool Refused) → reason ≡ None → Answers reason r (λ there. there ≡ true) → r ≡ Ok true
-asked reason (Ok there) none h = ap Ok h.1
-asked reason (Err x) none h = absurd (no_reason (told x) (sym h ∙ none))
 
 -- an answer that is granted
 pub granted_answers : (reason : Option Reason) (r : Result Unit Refused) (P : Type 0) → r ≡ Ok tt → reason ≡ None → P → Answers reason r (λ _. P)
@@ -30,14 +25,6 @@ module _ {S : Type 0} (graph : S → Graph) (made : S → Type 0) (ledger : S �
       subst (λ (h : Graph). Answers (adding h l a b) r (λ _. Stands graph made ledger t (added h a b) (lowered l a b))) stands.graph_is
       (subst (λ (m : Ledger). Answers (adding (graph s) m a b) r (λ _. Stands graph made ledger t (added (graph s) a b) (lowered m a b))) stands.ledger_is
       (adds.answers stands.still_made))
-
-  -- a value that stands for g and l has no reason to refuse where these give none
-  pub reason_none : (s : S) (g : Graph) (l : Ledger) (a b : ℕ) → Stands graph made ledger s g l → adding g l a b ≡ None → adding (graph s) (ledger s) a b ≡ None
-  reason_none s g l a b stands none = ap₂ (λ (h : Graph) (m : Ledger). adding h m a b) stands.graph_is stands.ledger_is ∙ none
-
-  -- a caller that adds and asks finds the link where there is no reason to refuse
-  pub asked_there : (s : S) (g : Graph) (l : Ledger) (a b : ℕ) (r : Result Bool Refused) → Stands graph made ledger s g l → adding g l a b ≡ None → (made s → Answers (adding (graph s) (ledger s) a b) r (λ there. there ≡ true)) → r ≡ Ok true
-  asked_there s g l a b r stands none answer = asked _ r (reason_none s g l a b stands none) (answer stands.still_made)
 
   granted : (g : Graph) (l : Ledger) (a b : ℕ) (t : S) (r : Result Unit Refused) → Answers (adding g l a b) r (λ _. Stands graph made ledger t (added g a b) (lowered l a b)) → adding g l a b ≡ None → (r ≡ Ok tt) × Stands graph made ledger t (added g a b) (lowered l a b)
   granted g l a b t (Ok u) h e = (refl, h.1)

@@ -1,8 +1,9 @@
 //! What a caller can prove of books from their contracts alone.
 #![tactic(auto)]
 
-ghost use Rattle.std.specs.Prelude.{◌≡◌, true, Ok};
-ghost use Rattle.links.specs.Books.{adding};
+ghost use Rattle.std.specs.Prelude.{◌≡◌, true, length, None, Ok};
+ghost use Rattle.graph.specs.Graph.{no_links};
+ghost use Rattle.links.specs.Books.{adding, fresh_ledger};
 ghost use Rattle.links.specs.Refusals.{Answers, Kept};
 ghost use Rattle.book_examples.specs.Answers.{GrantedThenRefused};
 
@@ -12,6 +13,7 @@ pub mod lists;
 pub mod memory;
 
 use bit_matrix::BitMatrix;
+use book_kinds::{BookKind, Shape, each_kind_of_book};
 use class_filter::ClassFilter;
 use links::{Book, Links, Refused};
 use sorted_rows::SortedRows;
@@ -52,49 +54,80 @@ pub fn add_and_ask_filtered_twice<B: Book + Drop>(
     add_and_ask_filtered(filtered, a, b)
 }
 
-/// On a fresh bit matrix the first link is granted, and there.
-pub fn on_matrix() -> Result<bool, Refused>
-    ensures { result ≡ Ok true }
+/// The same in a fresh book of any kind. Where the making is not refused, the answer is the one that
+/// a fresh book of this shape has to give.
+pub fn add_and_ask_fresh<'a, K: BookKind<'a>>(
+    shape: Shape,
+    memory: &'a mut [K::Cell],
+    a: usize,
+    b: usize,
+) -> Result<bool, Refused>
+    ensures { K.BookKind.checking shape (length memory.old) ≡ None →
+        Answers (adding (no_links shape.size)
+        (fresh_ledger shape.size (K.BookKind.spares shape) shape.limit) a b) result
+        (λ there. there ≡ true) }
 {
-    let mut words = [0; 3];
-    let mut book = BitMatrix::new(3, 3, &mut words);
-    add_and_ask(&mut book, 0, 1)
+    let mut book = K::make(shape, memory);
+    add_and_ask(&mut book, a, b)
 }
 
-/// The same on rows.
-pub fn on_rows() -> Result<bool, Refused>
-    ensures { result ≡ Ok true }
+/// The same in a fresh book behind a filter that hides nothing.
+pub fn add_and_ask_fresh_filtered<'a, K: BookKind<'a>>(
+    shape: Shape,
+    memory: &'a mut [K::Cell],
+    a: usize,
+    b: usize,
+) -> Result<bool, Refused>
+    ensures { K.BookKind.checking shape (length memory.old) ≡ None →
+        Answers (adding (no_links shape.size)
+        (fresh_ledger shape.size (K.BookKind.spares shape) shape.limit) a b) result
+        (λ there. there ≡ true) }
 {
-    let mut rows = [0; 6];
-    let mut book = SortedRows::new(3, 1, 3, &mut rows);
-    add_and_ask(&mut book, 0, 1)
+    add_and_ask_filtered(K::make(shape, memory), a, b)
 }
 
-/// The same on a bit matrix under a filter that hides nothing.
-pub fn on_filtered_matrix() -> Result<bool, Refused>
-    ensures { result ≡ Ok true }
+/// The same behind two such filters.
+pub fn add_and_ask_fresh_filtered_twice<'a, K: BookKind<'a>>(
+    shape: Shape,
+    memory: &'a mut [K::Cell],
+    a: usize,
+    b: usize,
+) -> Result<bool, Refused>
+    ensures { K.BookKind.checking shape (length memory.old) ≡ None →
+        Answers (adding (no_links shape.size)
+        (fresh_ledger shape.size (K.BookKind.spares shape) shape.limit) a b) result
+        (λ there. there ≡ true) }
 {
-    let mut words = [0; 3];
-    let matrix = BitMatrix::new(3, 3, &mut words);
-    add_and_ask_filtered(matrix, 0, 1)
+    add_and_ask_filtered_twice(K::make(shape, memory), a, b)
 }
 
-/// The same on rows under such a filter.
-pub fn on_filtered_rows() -> Result<bool, Refused>
-    ensures { result ≡ Ok true }
-{
-    let mut numbers = [0; 6];
-    let rows = SortedRows::new(3, 1, 3, &mut numbers);
-    add_and_ask_filtered(rows, 0, 1)
+const THREE_LOADS: Shape = Shape {
+    size: 3,
+    row_limit: 1,
+    limit: 3,
+};
+
+// Links 0 and 1 in fresh books of one kind: bare, behind a filter, and behind two.
+macro_rules! first_link {
+    ($kind:ty, ($all_there:ident)) => {
+        let mut memory = [<$kind as BookKind>::noise(); 6];
+        let answer = add_and_ask_fresh::<$kind>(THREE_LOADS, &mut memory, 0, 1);
+        $all_there = $all_there & (answer == Ok(true));
+        let answer = add_and_ask_fresh_filtered::<$kind>(THREE_LOADS, &mut memory, 0, 1);
+        $all_there = $all_there & (answer == Ok(true));
+        let answer = add_and_ask_fresh_filtered_twice::<$kind>(THREE_LOADS, &mut memory, 0, 1);
+        $all_there = $all_there & (answer == Ok(true));
+    };
 }
 
-/// The same under two such filters.
-pub fn on_two_filters() -> Result<bool, Refused>
-    ensures { result ≡ Ok true }
+/// On a fresh book of every kind the first link is granted, and there; and so it is behind a filter
+/// that hides nothing, and behind two.
+pub fn on_every_kind() -> bool
+    ensures { result ≡ true }
 {
-    let mut words = [0; 3];
-    let below = BitMatrix::new(3, 3, &mut words);
-    add_and_ask_filtered_twice(below, 0, 1)
+    let mut all_there = true;
+    each_kind_of_book!(first_link(all_there));
+    all_there
 }
 
 /// A bit matrix of four loads with limit 1 takes one link, and has no room for another (10).

@@ -1,5 +1,5 @@
 -- Whole texts and the streams that they stand for.
-use Rattle.std.specs.Prelude.{◌≡◌, ℕ, ◌+◌, ◌<◌, ◌≤◌, true, false, cond}
+use Rattle.std.specs.Prelude.{◌≡◌, ℕ, ◌+◌, ◌<◌, ◌≤◌, true, false, if◌then◌else◌}
 use Rattle.std.specs.Prelude.{List, [], ◌++◌, length, take, slice_index_or}
 use Rattle.std.specs.Prelude.{is_ok, Some, None, Ok, Err, vec_items, string_bytes, codes, decimal}
 use Rattle.std.specs.Prelude.{Option, Result, Vec, String, ◌==◌}
@@ -10,6 +10,7 @@ use Rattle.links.specs.Words.{reason_text}
 use Rattle.links.specs.declared.refusal.Refused.{Refused}
 use Rattle.commands.specs.Commands.{bytes, line_of, reading}
 use Rattle.commands.specs.declared.Command.{Command}
+use Rattle.commands.specs.declared.TheConstants.{LONGEST_STREAM}
 use Rattle.text.specs.Words.{line_without_return}
 use Rattle.text.specs.Lines.{meaning, Means}
 use Rattle.text.specs.Shown.{quoted}
@@ -54,14 +55,14 @@ pub record FirstBad (text : List ℕ) (number : ℕ) (line : List ℕ) : Type 0 
   pub line_is : line ≡ slice_index_or (lines text) index []
   pub bad : is_ok (meaning line) ≡ false
   pub before : Good text index
-  pub short : length (first_bytes text index) ≤ 65536
+  pub short : length (first_bytes text index) ≤ LONGEST_STREAM
 
 -- the lines up to one of them are good, and have more bytes than a stream may have
 pub record TooMany (text : List ℕ) : Type 0 where
   pub count : ℕ
   pub inside : count ≤ length (lines text)
   pub good : Good text count
-  pub more : 65536 < length (first_bytes text count)
+  pub more : LONGEST_STREAM < length (first_bytes text count)
 
 -- every line is good, and this is the stream
 pub record StandsFor (text stream : List ℕ) : Type 0 where
@@ -78,7 +79,8 @@ Appends line number before (Err TooLong) after = ⊥
 Appends line number before (Err NoMemory) after = Unit {0}
 
 abbrev pub Encodes : List ℕ → Result (Vec ℕ Global) BadText → Type 0
-Encodes text (Ok stream) = StandsFor text (vec_items stream) × (length (vec_items stream) ≤ 65536)
+Encodes text (Ok stream) =
+    StandsFor text (vec_items stream) × (length (vec_items stream) ≤ LONGEST_STREAM)
 Encodes text (Err (Line number line)) = FirstBad text number line.now
 Encodes text (Err TooLong) = TooMany text
 Encodes text (Err NoMemory) = Unit {0}
@@ -110,7 +112,7 @@ pub record Spelled (stream text : List ℕ) : Type 0 where
 pub record StopsAt (stream : List ℕ) (place : ℕ) (refused : Refused) : Type 0 where
   pub before : (text : List ℕ) × Spelled (take place stream) text
   pub reason : reading stream place ≡ Some (told refused)
-  pub at_once : 65536 < length stream → place ≡ 0
+  pub at_once : LONGEST_STREAM < length stream → place ≡ 0
 
 abbrev pub Decodes : List ℕ → Result (String Global) BadStream → Type 0
 Decodes stream (Ok text) = Spelled stream (string_bytes text) × StandsFor (string_bytes text) stream
@@ -120,8 +122,8 @@ Decodes stream (Err bad_stream.NoMemory) = Unit {0}
 -- how a refusal with this number is told; 3 is of the whole stream, and others of a place
 abbrev pub refusal_told : ℕ → ℕ → List ℕ
 refusal_told number place =
-    cond (number == 3) (codes "the stream has more than 65536 bytes (refusal 3)")
-    (codes "byte " ++ (decimal place ++ (codes ": " ++ (reason_text number
+    if number == 3 then codes "the stream has more than 65536 bytes (refusal 3)"
+    else (codes "byte " ++ (decimal place ++ (codes ": " ++ (reason_text number
     ++ (codes " (refusal " ++ (decimal number ++ codes ")"))))))
 
 -- how it is told that a stream gives no text

@@ -1,5 +1,5 @@
 -- The command of a line.
-use Rattle.std.specs.Prelude.{◌≡◌, ℕ, cond, List, Some, None, Ok, Err, codes}
+use Rattle.std.specs.Prelude.{◌≡◌, ℕ, if◌then◌else◌, List, Some, None, Ok, Err, codes}
 use Rattle.std.specs.Prelude.{Option, Result, ◌==◌}
 use Rattle.std.specs.Str.{bytes_eq}
 use Rattle.commands.specs.declared.Command.{Command}
@@ -10,14 +10,14 @@ use Rattle.text.specs.Words.{number}
 
 abbrev pub command_of_one : List ℕ → ℕ → Option Command
 command_of_one kind a =
-    cond (bytes_eq kind (codes "withdraw")) (Some (Withdraw a))
-    (cond (bytes_eq kind (codes "depart")) (Some (Depart a))
-    (cond (bytes_eq kind (codes "partner")) (Some (Partner a)) None))
+    if bytes_eq kind (codes "withdraw") then Some (Withdraw a)
+    else (if bytes_eq kind (codes "depart") then Some (Depart a)
+    else (if bytes_eq kind (codes "partner") then Some (Partner a) else None))
 
 abbrev pub command_of_two : List ℕ → ℕ → ℕ → Option Command
 command_of_two kind a b =
-    cond (bytes_eq kind (codes "link")) (Some (Link a b))
-    (cond (bytes_eq kind (codes "unlink")) (Some (Unlink a b)) None)
+    if bytes_eq kind (codes "link") then Some (Link a b)
+    else (if bytes_eq kind (codes "unlink") then Some (Unlink a b) else None)
 
 -- a command where there is a load, and none where there is none
 abbrev pub with_load : Option ℕ → (ℕ → Option Command) → Option Command
@@ -28,9 +28,10 @@ with_load (Some a) of = of a
 -- nothing or a comment
 abbrev pub command_of : List ℕ → List ℕ → Option Command
 command_of kind rest =
-    with_load (number (word 0 rest)) (λ a. cond (no_more (word 1 rest)) (command_of_one kind a)
-    (with_load (number (word 1 rest)) (λ b. cond (no_more (word 2 rest)) (command_of_two kind a b)
-    None)))
+    with_load (number (word 0 rest)) (λ a.
+    if no_more (word 1 rest) then command_of_one kind a
+    else with_load (number (word 1 rest)) (λ b.
+    if no_more (word 2 rest) then command_of_two kind a b else None))
 
 abbrev pub required : Option Command → Result (Option Command) BadLine
 required None = Err (record {})
@@ -40,8 +41,8 @@ required (Some c) = Ok (Some c)
 abbrev pub meaning : List ℕ → Result (Option Command) BadLine
 meaning line =
     let text = line_without_return line in
-    cond (no_more (word 0 text)) (Ok None)
-    (required (command_of (word 0 text) (past blank (unspaced text))))
+    if no_more (word 0 text) then Ok None
+    else required (command_of (word 0 text) (past blank (unspaced text)))
 
 -- a line without a line feed that means this command
 pub record Means (line : List ℕ) (c : Command) : Type 0 where

@@ -1,5 +1,5 @@
 -- How a line is shown to a person.
-use Rattle.std.specs.Prelude.{ℕ, cond, List, ◌++◌, length, take}
+use Rattle.std.specs.Prelude.{ℕ, if◌then◌else◌, List, ◌++◌, length, take}
 use Rattle.std.specs.Prelude.{codes, nat_lt, encode_utf8_all}
 use Rattle.std.specs.List.{flat_map}
 use Rattle.std.specs.Char.Escape.{escape_ascii}
@@ -14,6 +14,5 @@ shown = flat_map shown_byte
 -- a line in quotes; of one with more than 60 bytes only these, and then two dots
 abbrev pub quoted : List ℕ → List ℕ
 quoted line =
-    cond (nat_lt 60 (length line))
-    (codes "\"" ++ (shown (take 60 line) ++ codes "\".."))
-    (codes "\"" ++ (shown line ++ codes "\""))
+    if nat_lt 60 (length line) then codes "\"" ++ (shown (take 60 line) ++ codes "\"..")
+    else codes "\"" ++ (shown line ++ codes "\"")
