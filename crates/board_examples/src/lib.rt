@@ -50,7 +50,8 @@ fn partners<B: Book, R: Ranking, const N: usize>(
 /// Six loads, on any book of that size that has no links yet and takes eight: when 0 and 1 are
 /// unlinked, both find other partners.
 pub fn six_loads<B: Book + Drop>(book: B) -> Result<[Option<usize>; 6], Refused>
-    ensures { Stands B.Links.graph B.Links.made B.Book.ledger book (no_links 6) (fresh_ledger 6 5 8) →
+    ensures { Stands B.Links.graph B.Links.made B.Book.ledger
+        book (no_links 6) (fresh_ledger 6 5 8) →
         result ≡ Ok (Some 2 ∷ Some 5 ∷ Some 0 ∷ Some 4 ∷ Some 3 ∷ Some 1 ∷ []) }
 {
     let mut board = Board::open(book, ByNumber);

@@ -54,8 +54,8 @@ pub fn add_and_ask_filtered_twice<B: Book + Drop>(
     add_and_ask_filtered(filtered, a, b)
 }
 
-/// The same in a fresh book of any kind. Where the making is not refused, the answer is the one that
-/// a fresh book of this shape has to give.
+/// The same in a fresh book of any kind. Where the making is not refused, the answer is the one
+/// that a fresh book of this shape has to give.
 pub fn add_and_ask_fresh<'a, K: BookKind<'a>>(
     shape: Shape,
     memory: &'a mut [K::Cell],

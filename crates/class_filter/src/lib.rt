@@ -7,7 +7,8 @@ ghost use Rattle.links.specs.Books.{Stands, Adds, Removes};
 ghost use Rattle.links.specs.Refusals.{Answers};
 ghost use Rattle.class_filter.specs.Classes.{class_of, hidden, filtered, filtered_ledger};
 ghost use Rattle.class_filter.specs.Classes.{filter_graph, FilterMade, filter_ledger, FilterFixed};
-ghost use Rattle.class_filter.specs.Classes.{filter_fixed, unless_visible, AddedBelow, RemovedBelow};
+ghost use Rattle.class_filter.specs.Classes.{filter_fixed, unless_visible, AddedBelow};
+ghost use Rattle.class_filter.specs.Classes.{RemovedBelow};
 
 use bits::bit_of;
 use links::members::{linked_loads, linked_loads_from};

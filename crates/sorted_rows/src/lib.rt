@@ -21,6 +21,9 @@ use links::{
 use row::{Change, change_row, position, row_loads};
 use strict_order::first_unordered;
 
+/// The highest row limit that rows can have: a link of a load to every other.
+pub const MOST_ROW_LIMIT: usize = 255;
+
 /// A book of links in numbers that the caller lends. Each load has a row of row limit + 1 numbers:
 /// how many links it has, the loads that it is linked to in rising order, then zeros. No pair is
 /// barred.
@@ -42,7 +45,7 @@ impl<'a> SortedRows<'a> {
     {
         check_size(size)?;
         check_limit(limit)?;
-        check_within(row_limit, 255, Refusal::LimitOutOfRange)?;
+        check_within(row_limit, MOST_ROW_LIMIT, Refusal::LimitOutOfRange)?;
         if rows.len() < size * (row_limit + 1) {
             return Err(Refusal::WrongLength.by(Layer::Book));
         }
