@@ -1,32 +1,47 @@
--- A word of digits, as `parse` reads it.
-use Rattle.std.proofs.Common.{◌≡◌, ℕ, ◌<◌, true, false, ◌&&◌, List, length, None, Ok, Err, Result, refl, arith, ◌^◌}
-use Rattle.std.specs.Str.Parse.{digits_value, ParsesUnsigned}
-use Rattle.std.specs.Char.{is_ascii_digit}
-use Rattle.std.specs.List.{list_all}
-use Rattle.std.specs.Str.{all_ascii_digits, IsUtf8}
-use Rattle.std.proofs.lemmas.Fmt.{IsAscii-from_digits}
-use Rattle.std.proofs.lemmas.List.Recursion.{same_from_clauses}
-use Rattle.std.proofs.lemmas.Str.{IsUtf8-from_ascii}
-use Rattle.std.proofs.lemmas.Str.Parse.{IsNumeralModel, tells_all_ascii_digits, numerals_by_value, parse_digits}
-use Rattle.std.specs.Result.{OkIff, result_ok}
+-- Decimal digits, byte by byte.
+use Rattle.std.proofs.Common.{◌≡◌, ℕ, ◌+◌, ◌-◌, ◌*◌, ◌<◌, ◌≤◌, true, false, ◌&&◌, ltb, leb, List, [], ◌∷◌, length, get_or, drop, Some, None, sym, ap, ◌∙◌, arith}
+use Rattle.std.specs.Str.Parse.{digits_value, digits_value_after}
+use Rattle.std.specs.Char.{digit_value as digitValue, is_ascii_digit}
+use Rattle.std.specs.Str.{all_ascii_digits}
+use Rattle.std.proofs.lemmas.List.{at_drop_more, at_drop_all}
+use Rattle.std.proofs.lemmas.Bool.{cond-true, cond-false, and_from, and_left, and_right, lt-ltb, le-leb, lt-leb}
 use Rattle.std.proofs.lemmas.Bool.Decides.{nat_tests}
 use Rattle.text.specs.Words.{number}
 
-pub all_is : (word : List ℕ) → list_all is_ascii_digit word ≡ all_ascii_digits word
-all_is word = same_from_clauses (list_all is_ascii_digit) all_ascii_digits (λ c rest. is_ascii_digit c && rest) refl (λ _ _. refl) (λ _ _. refl) word
+-- the first i bytes are digits that write n, and the others go on from there
+pub record Numbered (digits : List ℕ) (i n : ℕ) : Type 0 where
+  pub small : n ≤ 65535
+  pub goes_on : digits_value 10 digits ≡ digits_value_after 10 n (drop i digits)
+  pub all : all_ascii_digits digits ≡ all_ascii_digits (drop i digits)
 
-decimals : IsNumeralModel (λ ds. all_ascii_digits ds ≡ true) (digits_value 10)
-decimals = numerals_by_value _ tells_all_ascii_digits
+value_grows : (n : ℕ) (digits : List ℕ) → n ≤ digits_value_after 10 n digits
+value_grows n [] = omega arith
+value_grows n (d ∷ ds) = omega (arith, value_grows (n * 10 + digitValue d) ds)
 
-pub text_of_digits : (word : List ℕ) → all_ascii_digits word ≡ true → IsUtf8 word
-text_of_digits word all = IsUtf8-from_ascii word (IsAscii-from_digits word (decimals.to word all))
+digit_value : (c : ℕ) → is_ascii_digit c ≡ true → digitValue c ≡ c - 48
+digit_value c digit = grind (arith, nat_tests)
 
-pub no_digits : (word : List ℕ) → all_ascii_digits word ≡ false → None ≡ number word
-no_digits word other = grind (arith, nat_tests)
+refused : (digits : List ℕ) → (all_ascii_digits digits && leb (digits_value 10 digits) 65535) ≡ false → None ≡ number digits
+refused digits no_load = sym (cond-false (ltb 0 (length digits) && (all_ascii_digits digits && leb (digits_value 10 digits) 65535)) _ _ (and_right (ltb 0 (length digits)) _ no_load))
 
-parses_or : {E : Type 0} (word : List ℕ) (r : Result ℕ E) → all_ascii_digits word ≡ true → OkIff r ((0 < length word) × (digits_value 10 word < 2 ^ 16)) (digits_value 10 word) → result_ok r ≡ number word
-parses_or word (Ok n) all h = grind (arith, nat_tests)
-parses_or word (Err e) all h = grind (arith, nat_tests)
+module _ (digits : List ℕ) (i n : ℕ) (so_far : Numbered digits i n) (inside : i < length digits) where
+  -- a byte that is no digit
+  pub numbered_no_digit : is_ascii_digit (get_or digits i 0) ≡ false → None ≡ number digits
+  numbered_no_digit other =
+      let none : all_ascii_digits digits ≡ false = so_far.all ∙ (at_drop_more all_ascii_digits digits i 0 inside ∙ ap (λ t. t && all_ascii_digits (drop (i + 1) digits)) other) in
+      refused digits (and_left _ _ none)
 
-pub parsed_is : {E : Type 0} (word : List ℕ) (r : Result ℕ E) → ParsesUnsigned 16 10 word r → all_ascii_digits word ≡ true → result_ok r ≡ number word
-parsed_is word r parses all = parses_or word r all (parse_digits decimals 16 word r parses all)
+  module _ (digit : is_ascii_digit (get_or digits i 0) ≡ true) where
+    next_value : digits_value 10 digits ≡ digits_value_after 10 (n * 10 + (get_or digits i 0 - 48)) (drop (i + 1) digits)
+    next_value = so_far.goes_on ∙ (at_drop_more (digits_value_after 10 n) digits i 0 inside ∙ ap (λ d. digits_value_after 10 (n * 10 + d) (drop (i + 1) digits)) (digit_value (get_or digits i 0) digit))
+
+    -- a number that is too large already
+    pub numbered_too_large : 65535 < n * 10 + (get_or digits i 0 - 48) → None ≡ number digits
+    numbered_too_large large =
+        refused digits (and_right (all_ascii_digits digits) _ (lt-leb (digits_value 10 digits) 65535 (omega (arith, next_value, value_grows (n * 10 + (get_or digits i 0 - 48)) (drop (i + 1) digits)))))
+
+pub numbered_all : (digits : List ℕ) (i n : ℕ) → Numbered digits i n → length digits ≤ i → 0 < length digits → Some n ≡ number digits
+numbered_all digits i n so_far over some =
+    let all = so_far.all ∙ at_drop_all all_ascii_digits digits i over in
+    let is : digits_value 10 digits ≡ n = so_far.goes_on ∙ at_drop_all (digits_value_after 10 n) digits i over in
+    ap Some (sym is) ∙ sym (cond-true (ltb 0 (length digits) && (all_ascii_digits digits && leb (digits_value 10 digits) 65535)) _ _ (and_from _ _ (lt-ltb 0 (length digits) some) (and_from _ _ all (le-leb (digits_value 10 digits) 65535 (omega (arith, is, so_far.small))))))

@@ -3,13 +3,12 @@
 
 ghost use Rattle.std.specs.Prelude.{◌≡◌, IfOk, string_bytes};
 ghost use Rattle.commands.specs.Commands.{line_of};
-ghost use Rattle.text.specs.Words.{blank, unspaced, past, word as word_at};
 ghost use Rattle.text.specs.Lines.{command_of_one, command_of_two, command_of, meaning, Means};
 ghost use Rattle.text.specs.Worked.{WorkedLines};
 
 use commands::Command;
 use std::alloc::{AllocError, Global};
-use words::{no_more, number, without_return, word};
+use words::{no_more, number, split_word, without_return};
 
 pub mod conversion;
 mod shown;
@@ -40,18 +39,19 @@ fn two_loads(kind: &[u8], a: u16, b: u16) -> Option<Command>
     }
 }
 
-// The command of the words of a line: its kind, and then one or two loads. A comment may follow.
-fn parse_command(line: &[u8]) -> Option<Command>
-    ensures { result ≡ command_of (word_at 0 line.now) (past blank (unspaced line.now)) }
+// The command of a kind with the loads that the rest of its line has. A comment may follow.
+fn parse_command(kind: &[u8], rest: &[u8]) -> Option<Command>
+    ensures { result ≡ command_of kind.now rest.now }
 {
-    let kind = word(line, 0);
-    let a = number(word(line, 1))?;
-    let second = word(line, 2);
+    let (first, rest) = split_word(rest);
+    let a = number(first)?;
+    let (second, rest) = split_word(rest);
     if no_more(second) {
         return one_load(kind, a);
     }
     let b = number(second)?;
-    if !no_more(word(line, 3)) {
+    let (third, _) = split_word(rest);
+    if !no_more(third) {
         return None;
     }
     two_loads(kind, a, b)
@@ -64,11 +64,11 @@ fn parse_command(line: &[u8]) -> Option<Command>
 pub fn parse_line(line: &[u8]) -> Result<Option<Command>, BadLine>
     ensures { result ≡ meaning line.now }
 {
-    let line = without_return(line);
-    if no_more(word(line, 0)) {
+    let (kind, rest) = split_word(without_return(line));
+    if no_more(kind) {
         return Ok(None);
     }
-    parse_command(line).map(Some).ok_or(BadLine)
+    parse_command(kind, rest).map(Some).ok_or(BadLine)
 }
 
 /// The line of a command, without a line feed.

@@ -1,25 +1,20 @@
-use Rattle.std.proofs.Common.{◌≡◌, rules, tests, sym, ◌∙◌}
-use Rattle.std.specs.Char.{is_ascii_digit}
-use Rattle.std.specs.Str.{all_ascii_digits}
-use Rattle.std.proofs.lemmas.Iterator.{YieldsList-from_slice}
-use Rattle.std.proofs.lemmas.Iterator.Search.{all_from_yields_List}
-use Rattle.text.proofs.Numbers.{all_is, text_of_digits, no_digits, parsed_is}
+use Rattle.std.proofs.Common.{◌≡◌, ℕ, ◌^◌, ◌<◌, Ok, Err, Result, None, sym, ◌∙◌, arith}
+use Rattle.std.specs.Result.{OkIff, result_ok}
+use Rattle.std.proofs.lemmas.Bool.{eqb-false}
+use Rattle.text.proofs.Numbers.{numbered_no_digit, numbered_too_large, numbered_all}
 use Rattle.text.proofs.words.number.Goals as goal
-use Rattle.text.proofs.words.number.Goals.{After-all}
 
-asked : (c : After-all) → c.all.result ≡ all_ascii_digits c.args.word.now
-asked c =
-    all_from_yields_List is_ascii_digit _ _ _ c.all.ensures.ran (YieldsList-from_slice c.args.word.now cc) (λ x b q k. search (rules, tests)) ∙ all_is c.args.word.now
+pub returns-then-not-is_ascii_digit : goal.returns-then-not-is_ascii_digit
+returns-then-not-is_ascii_digit c = numbered_no_digit _ _ _ c.loop-byte.invariant (omega arith) (sym c.if-not-is_ascii_digit.ensures.value)
 
-pub returns-then-not-all : goal.returns-then-not-all
-returns-then-not-all c = no_digits c.args.word.now (sym (asked (goal.at.returns-then-not-all c).After-all) ∙ c.if-not-all.true)
+no_fit : {E : Type 0} (r : Result ℕ E) (n : ℕ) → OkIff r (n < 2 ^ 16) n → None ≡ result_ok r → 65535 < n
+no_fit (Ok m) n fits none = cc
+no_fit (Err e) n fits none = omega (arith, fits)
 
-pub returns-in_err-ok : goal.returns-in_err-ok
-returns-in_err-ok c =
-    let utf8 = text_of_digits c.args.word.now (sym (asked (goal.at.returns-in_err-ok c).After-all) ∙ c.if-not-all.false) in
-    search (rules, utf8)
+pub returns-in_err-n : goal.returns-in_err-n
+returns-in_err-n c =
+    let large = no_fit c.try_from.result _ c.try_from.ensures (sym c.in_err-n.was ∙ c.ok.ensures.value) in
+    c.from_residual.ensures ∙ numbered_too_large _ _ _ c.loop-byte.invariant (omega arith) (sym c.if-not-is_ascii_digit.ensures.value) (omega (arith, large))
 
 pub returns : goal.returns
-returns c =
-    let same : c.in_ok-ok.field-0.now ≡ c.args.word.now = search rules in
-    c.ok-2.ensures.value ∙ parsed_is c.args.word.now c.parse.result (rw same at c.parse.ensures.value.0) (sym (asked (goal.at.returns c).After-all) ∙ c.if-not-all.false)
+returns c = numbered_all _ _ _ c.loop-byte.invariant c.loop-byte-test.false (omega (arith, eqb-false _ 0 (sym c.if-is_empty.ensures)))
