@@ -60,3 +60,22 @@ impl BookTest for LinksHidden {
 fn hidden_links(rt: HostRuntime) -> Result<(), Fail> {
     on_every_kind::<LinksHidden>(&rt, rt.alloc(), narrow(4, 2))
 }
+
+// The same where the book below has room for every link.
+#[test]
+fn hidden_links_with_room(rt: HostRuntime) {
+    let mut words = [0u64; 4];
+    let mut below = BitMatrix::new(4, 6, &mut words);
+    assert_eq!(rt; below.add(0, 1), Ok(()));
+    assert_eq!(rt; below.add(0, 3), Ok(()));
+    let mut book = ClassFilter::new(below, &[1, 2, 2], [0, 4, 0, 0, 0, 0, 0, 0]);
+    assert_eq!(rt; book.linked(0, 1), false);
+    assert_eq!(rt; book.add(0, 1), Err(Refusal::Barred.by(Layer::Book)));
+    assert_eq!(rt; book.remove(1, 0), Err(Refusal::NotLinked.by(Layer::Book)));
+    assert_eq!(rt; book.degree(0), 1);
+    assert_eq!(rt; book.next_linked(0, 0), Some(3));
+    assert_eq!(rt; book.link_count(), 1);
+    assert_eq!(rt; book.spare(0), 1);
+    assert_eq!(rt; book.is_barred(0, 4), false);
+    assert_eq!(rt; book.add(1, 2), Ok(()));
+}

@@ -7,12 +7,14 @@ use std::process::Abort;
 use std::test::Fail;
 
 // Sizes and limits that no book has. The size counts first.
-const REFUSED: [(usize, usize, Refusal); 7] = [
+const REFUSED: [(usize, usize, Refusal); 9] = [
     (0, 1, Refusal::SizeOutOfRange),
     (257, 1, Refusal::SizeOutOfRange),
+    (usize::MAX, 1, Refusal::SizeOutOfRange),
     (usize::MAX, usize::MAX, Refusal::SizeOutOfRange),
     (0, 0, Refusal::SizeOutOfRange),
     (1, 0, Refusal::LimitOutOfRange),
+    (256, 0, Refusal::LimitOutOfRange),
     (256, 32641, Refusal::LimitOutOfRange),
     (256, usize::MAX, Refusal::LimitOutOfRange),
 ];

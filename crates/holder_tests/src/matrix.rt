@@ -1,4 +1,4 @@
-// The memory of a bit matrix.
+// The memory of a bit matrix, and its refusals in turn.
 use bit_matrix::BitMatrix;
 use links::{Book, Layer, Links, Refusal};
 
@@ -42,4 +42,39 @@ fn layout(rt: HostRuntime) {
         };
         assert_eq!(rt; *word, expected);
     }
+}
+
+// Longer memory is taken. A making in too little of it has no loads, and touches nothing.
+#[test]
+fn makings(rt: HostRuntime) {
+    let words = [0u64; 1024];
+    for size in [1, 64, 65] {
+        assert_eq!(rt; BitMatrix::check(size, 1, &words), Ok(()));
+    }
+    let mut words = [7u64; 2];
+    let mut book = BitMatrix::new(3, 5, &mut words);
+    assert_eq!(rt; book.size(), 0);
+    assert_eq!(rt; book.limit(), 0);
+    assert_eq!(rt; book.add(0, 1), Err(Refusal::NoSuchLoad.by(Layer::Book)));
+    assert_eq!(rt; words, [7, 7]);
+}
+
+// Four loads, and room for one link.
+#[test]
+fn refusals(rt: HostRuntime) {
+    let mut words = [0u64; 4];
+    let mut book = BitMatrix::new(4, 1, &mut words);
+    assert_eq!(rt; book.add(0, 4), Err(Refusal::NoSuchLoad.by(Layer::Book)));
+    assert_eq!(rt; book.add(4, 4), Err(Refusal::NoSuchLoad.by(Layer::Book)));
+    assert_eq!(rt; book.add(2, 2), Err(Refusal::SameLoad.by(Layer::Book)));
+    assert_eq!(rt; book.remove(0, 1), Err(Refusal::NotLinked.by(Layer::Book)));
+    assert_eq!(rt; book.add(0, 1), Ok(()));
+    assert_eq!(rt; book.add(1, 0), Err(Refusal::AlreadyLinked.by(Layer::Book)));
+    assert_eq!(rt; book.add(2, 3), Err(Refusal::BookFull.by(Layer::Book)));
+    assert_eq!(rt; book.remove(1, 1), Err(Refusal::SameLoad.by(Layer::Book)));
+    assert_eq!(rt; book.remove(1, 9), Err(Refusal::NoSuchLoad.by(Layer::Book)));
+    assert_eq!(rt; book.link_count(), 1);
+    assert_eq!(rt; book.remove(1, 0), Ok(()));
+    assert_eq!(rt; book.add(2, 3), Ok(()));
+    assert!(rt; !book.is_barred(2, 3));
 }
