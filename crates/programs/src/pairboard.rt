@@ -5,6 +5,7 @@ use clap::Command;
 use commands::LONGEST_STREAM;
 use std::alloc::{AllocError, Global};
 use std::convert::AsStr;
+use std::env::{Env, FillError};
 use std::io::Read;
 use std::process::ExitCode;
 use std::{env, io};
@@ -19,7 +20,8 @@ fn command<'a>(heap: Global) -> Command<'a> {
 /// Runs `pairboard` with the words of its command line, of which the first is its name.
 ///
 /// The output is the transcript of the first 65,536 bytes of the input. Where the input has so
-/// many, the message says that no more was read.
+/// many, the message says that no more was read; if there is no memory for the message, the output
+/// stays, and the status is 1.
 pub fn run<S: AsStr, I: Read + Drop>(
     heap: Global,
     words: &[S],
@@ -37,16 +39,25 @@ pub fn run<S: AsStr, I: Read + Drop>(
         Err(failure) => return Ended::failed(heap, failure),
     };
     let mut ended = Ended::well(heap, text);
-    if bytes.len() == LONGEST_STREAM {
-        writeln!(
+    if bytes.len() == LONGEST_STREAM
+        && writeln!(
             ended.message,
             "nothing past the first {LONGEST_STREAM} bytes was read"
-        )?;
+        )
+        .is_err()
+    {
+        ended.message.clear();
+        ended.status = 1;
     }
     Ok(ended)
 }
 
+// Where the command line has no word behind the name, the name is not read: the file may have one
+// that is not UTF-8.
 fn run_process(rt: &HostRuntime) -> io::Result<Ended> {
+    if let Err(FillError::NotPresent) = rt.arg(1, &mut [0]) {
+        return Ok(run(rt.alloc(), &["pairboard"], rt.stdin())?);
+    }
     let words: Vec<String> = env::args(rt)?.collect(rt.alloc())?;
     Ok(run(rt.alloc(), words.as_slice(), rt.stdin())?)
 }
