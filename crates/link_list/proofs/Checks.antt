@@ -5,7 +5,7 @@ use Rattle.std.proofs.lemmas.Bool.Decides.{nat_tests}
 use Rattle.std.specs.declared.cmp.Ordering.{Ordering}
 use Rattle.std.specs.Ordering.{nat_cmp, on, then_cmp}
 use Rattle.links.specs.Books.{unless_size}
-use Rattle.strict_order.specs.StrictOrder.{comes_before, InOrder, Rises, FirstUnordered}
+use Rattle.strict_order.specs.StrictOrder.{comes_before, StrictTotal, InOrder, Rises, FirstUnordered}
 use Rattle.link_list.specs.declared.Entry.{Entry}
 use Rattle.graph.specs.Graph.{lowest_passing}
 use Rattle.graph.proofs.Lowest.{passing_none, none_passing}
@@ -22,6 +22,14 @@ entry_order = λ i e f. same e f i
   where
     same : (e f : Entry) → comes_before entry_cmp e f ≡ entry_before e f
     same e f = grind (arith, nat_tests)
+
+pub entry_strict : StrictTotal {X = Entry} ◌≡◌ entry_before
+entry_strict =
+    record {
+      irreflexive = λ e. grind (arith, nat_tests);
+      transitive = λ e f g h k. grind (arith, nat_tests);
+      total = λ e f h k. grind (arith, nat_tests);
+    }
 
 -- what the test of strict rise answers
 abbrev RiseFound : List Entry → Option ℕ → Type 0

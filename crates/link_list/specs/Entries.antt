@@ -1,12 +1,18 @@
 -- Entries, and the first one that breaks a rule.
-use Rattle.std.specs.Prelude.{ℕ, ◌-◌, min, Bool, not, ◌&&◌, ◌||◌, if◌then◌else◌, List, Some, None}
+use Rattle.std.specs.Prelude.{◌≡◌, ℕ, ◌-◌, min, Bool, not, ◌&&◌, ◌||◌, if◌then◌else◌, List}
+use Rattle.std.specs.Prelude.{Some, None}
 use Rattle.std.specs.Prelude.{Option, ◌==◌, nat_le, nat_lt, slice_index_or}
 use Rattle.graph.specs.Graph.{is_pair}
+use Rattle.strict_order.specs.StrictOrder.{StrictTotal}
 use Rattle.link_list.specs.declared.Entry.{Entry}
 
 -- by a, and then by b
 abbrev pub entry_before : Entry → Entry → Bool
 entry_before e f = nat_lt e.a f.a || (e.a == f.a && nat_lt e.b f.b)
+
+-- of two entries that are not equal, exactly one is before the other
+abbrev pub EntriesOrdered : Type 0
+EntriesOrdered = StrictTotal ◌≡◌ entry_before
 
 -- a < b < n
 abbrev pub in_bounds : ℕ → Entry → Bool

@@ -5,7 +5,7 @@ ghost use Rattle.std.specs.Prelude.{◌≡◌, length};
 ghost use Rattle.graph.specs.Graph.{lowest_passing};
 ghost use Rattle.links.specs.Refusals.{Answers};
 ghost use Rattle.link_list.specs.Entries.{in_bounds, joins, next_joined, touches, lower_of};
-ghost use Rattle.link_list.specs.Entries.{out_of_bounds};
+ghost use Rattle.link_list.specs.Entries.{EntriesOrdered, out_of_bounds};
 ghost use Rattle.link_list.specs.Lists.{list_graph, ListMade, checking, Sound, Listing};
 
 use links::{Layer, Links, Refusal, Refused, check_size};
@@ -143,3 +143,8 @@ impl Links for LinkList<'_> {
         self.entries.len()
     }
 }
+
+/// The order of entries is strict and total: of two that are not equal, exactly one comes first.
+pub fn entries_are_ordered()
+    ensures { EntriesOrdered }
+{}

@@ -3,10 +3,20 @@ use Rattle.std.proofs.Common.{◌≡◌, ℕ, zero, suc, ◌+◌, ◌-◌, ◌<�
 use mathlib.Core.Bool.{or-false, or_comm, or_assoc, and-true}
 use Rattle.std.specs.List.{insert, remove, filter, range_with_len}
 use Rattle.std.proofs.lemmas.Bool.{cases_lt, cases_eq, lt-ltb, le-ltb, ltb-true, eq-eqb, ne_eqb, eqb-true, eqb-false, or_cases, or_parts, or_left, or_right, or_from, both_ways}
-use Rattle.strict_order.specs.StrictOrder.{Rises}
+use Rattle.std.proofs.Common.{nat_lt}
+use Rattle.std.proofs.lemmas.Bool.Decides.{nat_tests}
+use Rattle.strict_order.specs.StrictOrder.{StrictTotal, Rises}
 use Rattle.graph.specs.Graph.{count, First}
 use Rattle.graph.proofs.Counts.{count_more, count_none}
 use Rattle.sorted_rows.specs.Row.{has, place}
+
+pub nat_strict : StrictTotal {X = ℕ} ◌≡◌ nat_lt
+nat_strict =
+    record {
+      irreflexive = λ x. grind (arith, nat_tests);
+      transitive = λ x y z e f. grind (arith, nat_tests);
+      total = λ x y e f. grind (arith, nat_tests);
+    }
 
 -- a strictly rising list of numbers from m on
 abbrev pub Above : ℕ → List ℕ → Type 0

@@ -1,8 +1,9 @@
 -- What holds of every book in rows that came from its making.
 use Rattle.std.specs.Prelude.{◌≡◌, ℕ, ◌-◌, ◌<◌, ◌≤◌, List, ◌∷◌, ◌++◌, length, None}
-use Rattle.std.specs.Prelude.{replicate, slice_index}
+use Rattle.std.specs.Prelude.{nat_lt, replicate, slice_index}
 use Rattle.std.specs.List.{filter, range_with_len}
 use Rattle.graph.specs.Graph.{Graph, degree}
+use Rattle.strict_order.specs.StrictOrder.{StrictTotal}
 use Rattle.sorted_rows.specs.RowMemory.{all_numbers, row_of}
 use Rattle.sorted_rows.specs.declared.SortedRows.{SortedRows}
 use Rattle.sorted_rows.specs.Rows.{rows_graph, rows_ledger, RowsMade, rows_fixed, Making}
@@ -41,3 +42,7 @@ pub record Spared (s : SortedRows) (a : ℕ) : Type 0 where
 
 abbrev pub SparesLeft : Type 0
 SparesLeft = (s : SortedRows) → RowsMade s → (a : ℕ) → a < s.size → Spared s a
+
+-- the order in which a row has its loads: of two numbers that are not equal, exactly one is lower
+abbrev pub NumbersOrdered : Type 0
+NumbersOrdered = StrictTotal ◌≡◌ nat_lt
